@@ -1,0 +1,5 @@
+pub mod Faults
+pub mod Tree
+pub mod Memory
+pub mod Mode
+pub mod Whole
