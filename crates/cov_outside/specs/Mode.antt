@@ -1,5 +1,5 @@
--- The names of modes.
-use Rattle.std.specs.Prelude.{ℕ, List, codes}
+-- What a mode is called, and how counts of one unit are combined in it.
+use Rattle.std.specs.Prelude.{ℕ, ◌+◌, ◌-◌, ◌^◌, min, List, codes}
 use Rattle.cov_outside.specs.declared.mode.Mode.{Mode}
 use Rattle.cov_outside.specs.declared.mode.Mode.TheVariants.{Set, Count, Atomic}
 
@@ -8,3 +8,13 @@ abbrev pub mode_name : Mode → List ℕ
 mode_name Set = codes "set"
 mode_name Count = codes "count"
 mode_name Atomic = codes "atomic"
+
+-- the count at which sums stop: in mode set a unit ran or it did not
+abbrev pub greatest : Mode → ℕ
+greatest Set = 1
+greatest Count = 2 ^ 32 - 1
+greatest Atomic = 2 ^ 32 - 1
+
+-- the lesser of the true sum and the greatest count
+abbrev pub combined : Mode → ℕ → ℕ → ℕ
+combined mode a b = min (a + b) (greatest mode)

@@ -5,12 +5,14 @@ ghost use Rattle.std.specs.Cmp.{partial_order_from_own_ties};
 ghost use Rattle.std.specs.Cmp.Rules.{comparing};
 ghost use Rattle.std.specs.Cmp.Lexicographic.{slice_cmp, pointwise};
 ghost use Rattle.std.specs.Ordering.{nat_cmp, as_partial_cmp};
-ghost use Rattle.std.specs.Prelude.{nat_eq, OnErr};
+ghost use Rattle.std.specs.Prelude.{nat_eq};
+ghost use Rattle.std.specs.Str.{IsUtf8};
 
 use crate::fault::NoMemory;
 use std::alloc::Global;
 use std::cmp::Ordering;
 use std::marker::Model;
+use std::str::from_utf8;
 
 #[derive(Debug, Drop)]
 pub struct Text {
@@ -34,10 +36,25 @@ impl Text {
         })
     }
 
+    /// The text over a buffer.
+    pub fn from_vec(bytes: Vec<u8>) -> Text
+        ensures { result ≡ bytes.items }
+    {
+        Text { held: bytes }
+    }
+
     pub fn bytes(&self) -> &[u8]
         ensures { result.now ≡ self.now }
     {
         &self.held
+    }
+
+    /// The text as UTF-8, which it has to be.
+    pub fn as_str(&self) -> &str
+        requires { IsUtf8 self.now }
+        ensures { result.now ≡ self.now }
+    {
+        from_utf8(self.bytes()).unwrap()
     }
 }
 

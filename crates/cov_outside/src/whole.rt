@@ -26,8 +26,8 @@ impl From<AllocError> for WholeFault {
 
 /// The bytes of a file that has at most `limit` of them.
 pub fn read_whole<F: Files>(
-    files: &mut F,
     alloc: Global,
+    files: &mut F,
     path: &str,
     limit: u64,
 ) -> Result<Vec<u8>, WholeFault>
