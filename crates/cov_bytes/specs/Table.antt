@@ -3,10 +3,10 @@ use Rattle.std.specs.Prelude.{◌≡◌, ℕ, ◌+◌, List, length, Result, Ok,
 use Rattle.cov_bytes.specs.Reading.{Place, uleb_at, take_at}
 use Rattle.cov_bytes.specs.Many.{◌>>=◌, many}
 use Rattle.cov_bytes.specs.declared.cursor.CutFault.{CutFault}
-use Rattle.cov_bytes.specs.declared.table.TableFault.{TableFault}
-use Rattle.cov_bytes.specs.declared.table.TableFault.TheVariants as faults
-use Rattle.cov_bytes.specs.declared.table.WhichText.TheVariants.{Strings, NameBytes, StringBytes}
-use Rattle.cov_bytes.specs.declared.table.TextLimits.{TextLimits}
+use Rattle.cov_bytes.specs.declared.text_limits.TableFault.{TableFault}
+use Rattle.cov_bytes.specs.declared.text_limits.TableFault.TheVariants as faults
+use Rattle.cov_bytes.specs.declared.text_limits.WhichText.TheVariants.{Strings, NameBytes, StringBytes}
+use Rattle.cov_bytes.specs.declared.text_limits.TextLimits.{TextLimits}
 
 abbrev pub cut : {A : Type 0} → Result A CutFault → Result A TableFault
 cut (Ok x) = Ok x

@@ -1,0 +1,15 @@
+//! Meta files of coverage data: what they say, read byte by byte.
+#![tactic(auto)]
+
+mod allowance;
+mod blob;
+mod entries;
+mod fault;
+mod function;
+mod header;
+mod meta;
+mod read;
+
+pub use fault::MetaFault;
+pub use meta::{Meta, MetaFile, MetaFunction, MetaPackage, MetaUnit, Place2};
+pub use read::read_meta;

@@ -1,0 +1,17 @@
+//! Coverage tables: a count for each unit.
+#![tactic(auto)]
+
+mod gather;
+mod order;
+mod refusal;
+mod row;
+mod settle;
+mod table;
+mod units;
+
+pub use refusal::TableRefusal;
+pub use table::Table;
+pub use units::{Unit, Units};
+
+#[cfg(test)]
+mod tests;

@@ -1,0 +1,25 @@
+-- What the refusal of a part is for the command.
+use Rattle.cov_outside.specs.declared.fault.FilesFault.{FilesFault}
+use Rattle.cov_outside.specs.declared.fault.FilesFault.TheVariants as files_fault
+use Rattle.cov_pods.specs.declared.fault.PodFault.{PodFault}
+use Rattle.cov_pods.specs.declared.fault.PodFault.TheVariants as pod_fault
+use Rattle.cov_table.specs.declared.refusal.TableRefusal.{TableRefusal}
+use Rattle.cov_table.specs.declared.refusal.TableRefusal.TheVariants as table_refusal
+use Rattle.gocov_tools.specs.declared.refusal.Refusal.{Refusal}
+use Rattle.gocov_tools.specs.declared.refusal.Refusal.TheVariants as refusals
+
+abbrev pub of_files : FilesFault → Refusal
+of_files files_fault.Failed = refusals.Read
+of_files files_fault.NoMemory = refusals.NoMemory
+
+abbrev pub of_pod : PodFault → Refusal
+of_pod (pod_fault.Data path offset kind) = refusals.NotBuilt
+of_pod (pod_fault.Mode mode) = refusals.NotBuilt
+of_pod (pod_fault.Limit w) = refusals.NotBuilt
+of_pod (pod_fault.Missing path) = refusals.Missing path
+of_pod pod_fault.Read = refusals.Read
+of_pod pod_fault.NoMemory = refusals.NoMemory
+
+abbrev pub of_table : TableRefusal → Refusal
+of_table (table_refusal.ModeClash first second) = refusals.NotBuilt
+of_table table_refusal.NoMemory = refusals.NoMemory
