@@ -32,6 +32,10 @@ impl Filter {
     /// Whether a package is kept.
     pub fn keeps(&self, path: &[u8]) -> bool {
         self.patterns.is_empty()
-            || self.patterns.as_slice().iter().any(|pattern| matches_pattern(pattern.bytes(), path))
+            || self
+                .patterns
+                .as_slice()
+                .iter()
+                .any(|pattern| matches_pattern(pattern.bytes(), path))
     }
 }
