@@ -1,5 +1,8 @@
 //! `covdata`.
-ghost use Rattle.std.specs.Prelude.{◌≡◌};
+ghost use Rattle.std.specs.Prelude.{◌≡◌, All, IfSome};
+ghost use Rattle.std.specs.Option.{option_copied};
+ghost use Rattle.std.specs.Str.{IsUtf8};
+ghost use Rattle.gocov_tools.specs.Profile as spec;
 
 use crate::profile::profile_of;
 use crate::refusal::Refusal;
@@ -19,11 +22,39 @@ fn status_of(refusal: Refusal) -> Status {
 }
 
 /// Puts a file, the last thing that a command does.
-fn put_last<F: Files>(files: &mut F, path: &Text, bytes: &[u8]) -> Status {
+fn put_last<F: Files>(files: &mut F, path: &Text, bytes: &[u8]) -> Status
+    requires { IsUtf8 path.now }
+{
     match files.put(path.as_str(), bytes) {
         Ok(()) => Status::Done(0),
         Err(FilesFault::Failed) => Status::WriteFault,
         Err(FilesFault::NoMemory) => Status::NoMemory,
+    }
+}
+
+/// The directory, where there is exactly one.
+fn only_dir(dirs: &[Text]) -> Option<&Text>
+    requires { All IsUtf8 dirs.now }
+    ensures only { option_copied result ≡ spec.only_dir dirs.now }
+    ensures utf8 { IfSome result (λ dir. IsUtf8 dir.now) }
+{
+    match dirs {
+        [dir] => Some(dir),
+        _ => None,
+    }
+}
+
+/// Puts the text profile of a directory.
+fn put_profile<F: Files>(alloc: Global, files: &mut F, dir: &Text, path: &Text) -> Status
+    requires dir { IsUtf8 dir.now }
+    requires path { IsUtf8 path.now }
+{
+    let filter = Filter {
+        patterns: Sequence::new(alloc),
+    };
+    match profile_of(alloc, files, dir, &filter) {
+        Ok(text) => put_last(files, path, &text),
+        Err(refusal) => status_of(refusal),
     }
 }
 
@@ -34,16 +65,12 @@ pub fn covdata<F: Files, O: Sink>(
     files: &mut F,
     _out: &mut O,
     _stamp: Stamp,
-) -> Status
-{
-    let ([dir], Some(path)) = (args.dirs.as_slice(), &args.out) else {
+) -> Status {
+    let Some(path) = &args.out else {
         return Status::NotBuilt;
     };
-    let filter = Filter {
-        patterns: Sequence::new(alloc),
-    };
-    match profile_of(alloc, files, dir, &filter) {
-        Ok(text) => put_last(files, path, &text),
-        Err(refusal) => status_of(refusal),
+    match only_dir(args.dirs.as_slice()) {
+        Some(dir) => put_profile(alloc, files, dir, path),
+        None => Status::NotBuilt,
     }
 }

@@ -1,6 +1,9 @@
 //! The text profile of a directory.
-ghost use Rattle.std.specs.Prelude.{◌≡◌};
+ghost use Rattle.std.specs.Prelude.{◌≡◌, All, IfOk, IfSome};
+ghost use Rattle.std.specs.Option.{option_copied};
 ghost use Rattle.std.specs.Str.{IsUtf8};
+ghost use Rattle.cov_pods.specs.Paths.{HasTextPaths};
+ghost use Rattle.gocov_tools.specs.Profile as spec;
 
 use crate::refusal::Refusal;
 use cov_outside::{Files, NoMemory, Sequence, Text};
@@ -12,27 +15,53 @@ use std::alloc::Global;
 /// The pods of a directory.
 fn pods_in<F: Files>(alloc: Global, files: &mut F, dir: &Text) -> Result<Vec<Pod>, Refusal>
     requires { IsUtf8 dir.now }
+    ensures utf8 { IfOk result (λ pods. All HasTextPaths pods.items) }
 {
     let names = files.list(alloc, dir.as_str())?;
     let dir = dir.clone()?;
     let names = Sequence::from_vec(names);
-    let dirs = vec![in alloc; DirNames { dir, names }]?;
-    Ok(collect(alloc, &dirs)?)
+    Ok(collect(alloc, &[DirNames { dir, names }])?)
 }
 
-/// The text profile of a directory that holds one pod, of one meta file and one counter file.
-pub fn profile_of<F: Files>(alloc: Global, files: &mut F, dir: &Text, filter: &Filter) -> Result<Vec<u8>, Refusal>
-    requires { IsUtf8 dir.now }
+/// The pod, where there is exactly one, with exactly one counter file.
+fn only_pod(pods: &[Pod]) -> Option<&Pod>
+    requires { All HasTextPaths pods.now }
+    ensures only { option_copied result ≡ spec.only_pod pods.now }
+    ensures utf8 { IfSome result (λ pod. HasTextPaths pod.now) }
 {
-    let pods = pods_in(alloc, files, dir)?;
-    let [pod] = pods.as_slice() else {
-        return Err(Refusal::NotBuilt);
-    };
-    if pod.counters.len() != 1 {
-        return Err(Refusal::NotBuilt);
+    match pods {
+        [pod] if pod.counters.len() == 1 => Some(pod),
+        _ => None,
     }
+}
+
+/// The text profile of a pod.
+fn profile_of_pod<F: Files>(
+    alloc: Global,
+    files: &mut F,
+    pod: &Pod,
+    filter: &Filter,
+) -> Result<Vec<u8>, Refusal>
+    requires { HasTextPaths pod.now }
+{
     let decoded = decode_pod(alloc, files, pod, None)?;
     let mut table = Table::new(alloc);
     table.add_pod(&decoded)?;
     Ok(textfmt(alloc, &table, filter)?)
+}
+
+/// The text profile of a directory that holds one pod, of one meta file and one counter file.
+pub fn profile_of<F: Files>(
+    alloc: Global,
+    files: &mut F,
+    dir: &Text,
+    filter: &Filter,
+) -> Result<Vec<u8>, Refusal>
+    requires { IsUtf8 dir.now }
+{
+    let pods = pods_in(alloc, files, dir)?;
+    match only_pod(&pods) {
+        Some(pod) => profile_of_pod(alloc, files, pod, filter),
+        None => Err(Refusal::NotBuilt),
+    }
 }

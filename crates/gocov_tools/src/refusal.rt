@@ -11,9 +11,7 @@ use std::alloc::{AllocError, AllocFailed};
 #[derive(Debug, Drop)]
 pub enum Refusal {
     NotBuilt,
-    Missing {
-        path: Text,
-    },
+    Missing { path: Text },
     Read,
     NoMemory,
 }

@@ -9,9 +9,7 @@ pub enum Status {
     /// What was asked for isn't built yet.
     NotBuilt,
     /// There is no file at the path.
-    Missing {
-        path: Text,
-    },
+    Missing { path: Text },
     ReadFault,
     WriteFault,
     NoMemory,

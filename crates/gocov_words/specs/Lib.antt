@@ -1,2 +1,2 @@
+pub mod DataRequest
 pub mod Words
-pub mod Texts

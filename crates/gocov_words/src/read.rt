@@ -1,8 +1,6 @@
 //! The meaning of words.
 ghost use Rattle.std.specs.Prelude.{◌≡◌, map, IfOk, ◌∷◌, []};
-ghost use Rattle.std.specs.List.{list_any};
 ghost use Rattle.gocov_words.specs.Words.{meaning, Means, has_comma};
-ghost use Rattle.gocov_words.specs.Texts.{AreTexts};
 
 use crate::command::{Command, DataArgs, Sub};
 use crate::fault::WordsFault;
@@ -39,8 +37,7 @@ fn textfmt_of(alloc: Global, dir: &str, path: &str) -> Result<DataArgs, NoMemory
 ///
 /// So far `covdata textfmt -i=DIR -o=FILE` in this order is built, where neither is empty and DIR has no comma.
 pub fn read_words(alloc: Global, words: &[&str]) -> Result<Command, WordsFault>
-    ensures means { Means result (meaning (map (λ w. w.now) words.now)) }
-    ensures texts { IfOk result AreTexts }
+    ensures { Means result (meaning (map (λ w. w.now) words.now)) }
 {
     let [command, sub, input, output] = words else {
         return Err(WordsFault::NotBuilt);
