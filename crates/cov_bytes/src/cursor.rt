@@ -1,18 +1,22 @@
+//! Bytes that are read field by field.
 ghost use Rattle.std.specs.Prelude.{◌≡◌, ◌≤◌, ◌<◌, length, take, position, nat_lt, IfOk, OnOk, OnErr, IsErrOf, IsOk, ◌↔◌, Err, MatchResult};
 ghost use Rattle.cov_bytes.specs.Reading.{Place, Moves, take_at, byte_at, little_at, big_at, uleb_at, groups_value, IsNumberAt};
 
 use byteorder::{BigEndian, ByteOrder, LittleEndian};
 use std::marker::Model;
 
-/// Why a field can't be read. The offset, from 0, is where the read began; of a seek it is where it went.
+/// Why a field can't be read, with the offset from 0 at which the read began; for a seek it is where that went.
 #[derive(Clone, Copy, Debug, PartialEq, Eq)]
 pub enum CutFault {
+    /// Fewer bytes are left.
     Short(usize),
+    /// The first ten bytes of a ULEB128 number all have the high bit.
     NumberTooLong(usize),
+    /// A ULEB128 number isn't below 2^32.
     NumberTooLarge(usize),
 }
 
-/// A place in bytes.
+/// A place in bytes. What is read begins there, and the place moves behind it; after a fault it is as before.
 #[derive(Drop)]
 pub struct Cursor<'a> {
     bytes: &'a [u8],
@@ -31,12 +35,14 @@ impl<'a> Model for Cursor<'a> {
 }
 
 impl<'a> Cursor<'a> {
+    /// The start of some bytes.
     pub fn new(bytes: &'a [u8]) -> Cursor<'a>
         ensures { result ≡ record { bytes = bytes.now; at = 0 } }
     {
         Cursor { bytes, at: 0 }
     }
 
+    /// The next `n` bytes.
     pub fn take(&mut self, n: usize) -> Result<&'a [u8], CutFault>
         ensures { Moves (λ x. x.now) self.old self.new result (take_at n self.old.bytes self.old.at) }
     {
@@ -55,6 +61,7 @@ impl<'a> Cursor<'a> {
         self.at
     }
 
+    /// The next 16 bytes.
     pub fn take16(&mut self) -> Result<[u8; 16], CutFault>
         ensures { Moves (λ x. x) self.old self.new result (take_at 16 self.old.bytes self.old.at) }
     {
@@ -68,6 +75,7 @@ impl<'a> Cursor<'a> {
         Ok(found)
     }
 
+    /// The next byte.
     pub fn u8(&mut self) -> Result<u8, CutFault>
         ensures { Moves (λ x. x) self.old self.new result (byte_at self.old.bytes self.old.at) }
     {
@@ -79,6 +87,7 @@ impl<'a> Cursor<'a> {
         Ok(self.bytes[at])
     }
 
+    /// A number of 4 bytes, the lowest first.
     pub fn u32_le(&mut self) -> Result<u32, CutFault>
         ensures { Moves (λ x. x) self.old self.new result (little_at 4 self.old.bytes self.old.at) }
     {
@@ -90,6 +99,7 @@ impl<'a> Cursor<'a> {
         Ok(LittleEndian::read_u32(&self.bytes[at..]))
     }
 
+    /// A number of 4 bytes, the highest first.
     pub fn u32_be(&mut self) -> Result<u32, CutFault>
         ensures { Moves (λ x. x) self.old self.new result (big_at 4 self.old.bytes self.old.at) }
     {
@@ -101,6 +111,7 @@ impl<'a> Cursor<'a> {
         Ok(BigEndian::read_u32(&self.bytes[at..]))
     }
 
+    /// A number of 8 bytes, the lowest first.
     pub fn u64_le(&mut self) -> Result<u64, CutFault>
         ensures { Moves (λ x. x) self.old self.new result (little_at 8 self.old.bytes self.old.at) }
     {
@@ -112,6 +123,7 @@ impl<'a> Cursor<'a> {
         Ok(LittleEndian::read_u64(&self.bytes[at..]))
     }
 
+    /// Moves to an offset from 0, at most to the end.
     pub fn seek(&mut self, at: usize) -> Result<(), CutFault>
         ensures ok { OnOk result (self.new ≡ record self.old { at = at }) }
         ensures short { (result ≡ Err (CutFault.Short at)) ↔ (length self.old.bytes < at) }
@@ -125,6 +137,7 @@ impl<'a> Cursor<'a> {
         Ok(())
     }
 
+    /// A ULEB128 number below 2^32, in any spelling of at most ten bytes.
     pub fn uleb(&mut self) -> Result<u32, CutFault>
         ensures { Moves (λ x. x) self.old self.new result (uleb_at self.old.bytes self.old.at) }
     {

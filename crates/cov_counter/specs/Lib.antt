@@ -1,0 +1,9 @@
+pub mod Each
+pub mod Fault
+pub mod File
+pub mod Parts
+pub mod Head
+pub mod Entry
+pub mod Rest
+pub mod Outside
+pub mod Reader

@@ -1,4 +1,8 @@
 //! The counters of one function.
+ghost use Rattle.std.specs.Prelude.{◌≡◌};
+ghost use Rattle.cov_bytes.specs.Many.{many};
+ghost use Rattle.cov_counter.specs.File.{Reads};
+ghost use Rattle.cov_counter.specs.Entry.{number_at, length_at, entry_at};
 
 use crate::fault::CounterFault;
 use crate::head::Head;
@@ -21,7 +25,10 @@ pub struct Entry {
 }
 
 /// A number in the form that the header names.
-fn read_number(source: &mut Source<'_>, head: &Head) -> Result<u32, CounterFault> {
+#[tactic(auto, unfolding(crate::specs::Entry::number_at))]
+fn read_number(source: &mut Source<'_>, head: &Head) -> Result<u32, CounterFault>
+    ensures { Reads (λ n. n) source.old source.new result (number_at head.now source.old.file source.old.at) }
+{
     if head.flavour == 2 {
         source.uleb()
     } else if head.big {
@@ -31,7 +38,10 @@ fn read_number(source: &mut Source<'_>, head: &Head) -> Result<u32, CounterFault
     }
 }
 
-fn read_length(source: &mut Source<'_>, head: &Head) -> Result<u32, CounterFault> {
+#[tactic(auto, unfolding(crate::specs::Entry::length_at))]
+fn read_length(source: &mut Source<'_>, head: &Head) -> Result<u32, CounterFault>
+    ensures { Reads (λ n. n) source.old source.new result (length_at head.now source.old.file source.old.at) }
+{
     let length = read_number(source, head)?;
     if length > MOST_COUNTERS {
         return Err(CounterFault::Limit(Which::Units));
@@ -44,7 +54,9 @@ fn read_counts(
     source: &mut Source<'_>,
     head: &Head,
     length: u32,
-) -> Result<Vec<u32>, CounterFault> {
+) -> Result<Vec<u32>, CounterFault>
+    ensures { Reads (λ v. v.items) source.old source.new result (many (number_at head.now source.old.file) length source.old.at) }
+{
     let mut counts = Vec::new(alloc);
     for _ in 0..length {
         let count = read_number(source, head)?;
@@ -53,11 +65,14 @@ fn read_counts(
     Ok(counts)
 }
 
+#[tactic(auto, unfolding(crate::specs::Entry::entry_at))]
 pub fn read_entry(
     alloc: Global,
     source: &mut Source<'_>,
     head: &Head,
-) -> Result<Entry, CounterFault> {
+) -> Result<Entry, CounterFault>
+    ensures { Reads (λ e. e) source.old source.new result (entry_at head.now source.old.file source.old.at) }
+{
     let length = read_length(source, head)?;
     let package = read_number(source, head)?;
     let function = read_number(source, head)?;

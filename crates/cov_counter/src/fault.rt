@@ -1,6 +1,7 @@
 //! Why a counter file can't be read.
+ghost use Rattle.std.specs.Prelude.{◌≡◌};
+ghost use Rattle.cov_counter.specs.declared.fault.CounterFault.TheVariants as faults;
 
-use cov_bytes::CutFault;
 use cov_outside::{DataKind, Failed, Which};
 use std::alloc::{AllocError, AllocFailed};
 
@@ -19,45 +20,34 @@ pub enum CounterFault {
     NoMemory,
 }
 
-impl From<CutFault> for CounterFault {
-    fn from(f: CutFault) -> CounterFault {
-        match f {
-            CutFault::Short(at) => CounterFault::At {
-                offset: at as u64,
-                kind: DataKind::Short,
-            },
-            CutFault::NumberTooLong(at) => CounterFault::At {
-                offset: at as u64,
-                kind: DataKind::NumberTooLong,
-            },
-            CutFault::NumberTooLarge(at) => CounterFault::At {
-                offset: at as u64,
-                kind: DataKind::NumberTooLarge,
-            },
-        }
-    }
-}
-
 impl From<Failed> for CounterFault {
+    ghost from_gives = { λ _ e. e ≡ faults.Read };
+
     fn from(_e: Failed) -> CounterFault {
         CounterFault::Read
     }
 }
 
 impl From<AllocError> for CounterFault {
+    ghost from_gives = { λ _ e. e ≡ faults.NoMemory };
+
     fn from(_e: AllocError) -> CounterFault {
         CounterFault::NoMemory
     }
 }
 
 impl<T: Drop> From<AllocFailed<T>> for CounterFault {
+    ghost from_gives = { λ _ e. e ≡ faults.NoMemory };
+
     fn from(_e: AllocFailed<T>) -> CounterFault {
         CounterFault::NoMemory
     }
 }
 
 /// The fault of a rule that is broken at an offset.
-pub fn at(offset: usize, kind: DataKind) -> CounterFault {
+pub fn at(offset: usize, kind: DataKind) -> CounterFault
+    ensures { result ≡ CounterFault.At offset kind }
+{
     CounterFault::At {
         offset: offset as u64,
         kind,

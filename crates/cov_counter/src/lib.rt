@@ -9,11 +9,13 @@ mod parts;
 mod reader;
 mod rest;
 mod source;
+mod stage;
 
 pub use entry::Entry;
 pub use fault::CounterFault;
 pub use head::Head;
 pub use reader::CounterReader;
+pub use stage::Stage;
 
 #[cfg(test)]
 mod tests;

@@ -260,10 +260,28 @@ fn pairs_of_strings_are_counted(rt: HostRuntime) -> Result<(), Fail> {
     Ok(())
 }
 
-/// Opens a reader twice.
-fn opened_twice(alloc: Global, files: &mut MemoryFiles, path: &str) -> [Option<CounterFault>; 2] {
+/// The faults of opening a file and of the call after that.
+fn opened(alloc: Global, files: &mut MemoryFiles, path: &str) -> [Option<CounterFault>; 2] {
     let mut reader = CounterReader::new(alloc, files, path);
-    [reader.open(alloc).err(), reader.open(alloc).err()]
+    let first = reader.open(alloc).err();
+    [first, reader.next(alloc).err()]
+}
+
+/// The fault of the first entry, and what the reader answers after it.
+fn after_fault(
+    alloc: Global,
+    files: &mut MemoryFiles,
+    path: &str,
+) -> Result<[Option<CounterFault>; 3], CounterFault> {
+    let mut reader = CounterReader::start(alloc, files, path)?;
+    match reader.next(alloc) {
+        Ok(_) => Err(CounterFault::Missing),
+        Err(first) => {
+            let again = reader.next(alloc).err();
+            let last = reader.finish().err();
+            Ok([Some(first), again, last])
+        }
+    }
 }
 
 #[test]
@@ -272,14 +290,13 @@ fn a_fault_is_kept(rt: HostRuntime) -> Result<(), Fail> {
     let mut files = MemoryFiles::new(alloc, &[1])?;
     files.add("c", &EXAMPLE[..57])?;
     let missing = Some(CounterFault::Missing);
-    assert_eq!(rt; opened_twice(alloc, &mut files, "d"), [missing, missing]);
+    assert_eq!(rt; opened(alloc, &mut files, "d"), [missing, missing]);
     let read = Some(CounterFault::Read);
-    assert_eq!(rt; opened_twice(alloc, &mut files, "c"), [read, read]);
-    let mut reader = CounterReader::start(alloc, &mut files, "c").expect(&rt, "the head");
-    for _ in 0..2 {
-        let fault = reader.next(alloc).err();
-        assert_eq!(rt; fault, at(57, DataKind::Short));
-    }
-    assert_eq!(rt; reader.finish().err(), at(57, DataKind::Short));
+    assert_eq!(rt; opened(alloc, &mut files, "c"), [read, read]);
+    let short = at(57, DataKind::Short);
+    assert_eq!(rt;
+        after_fault(alloc, &mut files, "c"),
+        Ok([short, short, short])
+    );
     Ok(())
 }

@@ -1,2 +1,14 @@
 pub mod Loops
 pub mod Tables
+pub mod Bind
+pub mod SpelledNumbers
+pub mod Turns
+pub mod SpelledFunction
+pub mod SpelledTexts
+pub mod SpelledOffsets
+pub mod SpelledRecords
+pub mod SpelledHead
+pub mod SpelledPackage
+pub mod SpelledPackages
+pub mod SpelledHeader
+pub mod SpelledFile

@@ -22,8 +22,8 @@ numbers_at bytes at = do
   length ← field (little_at 4 bytes at)
   name ← field (little_at 4 bytes length.1)
   path ← field (little_at 4 bytes name.1)
-  unit ← field (little_at 4 bytes path.1)
-  Ok (record { name = name.0; path = path.0; «module» = unit.0 }, unit.1)
+  module_path ← field (little_at 4 bytes path.1)
+  Ok (record { name = name.0; path = path.0; «module» = module_path.0 }, module_path.1)
 
 -- the number of functions, of which so many may still come; the hash, 4 unused bytes and the number of files aren't looked at
 unfoldable pub functions_count_at : ℕ → List ℕ → ℕ → Result (ℕ × ℕ) MetaFault
@@ -39,8 +39,8 @@ unfoldable pub names_of : List (List ℕ) → ℕ → TextNumbers → Result Pac
 names_of texts start numbers = do
   name ← named (slice_get texts numbers.name) numbers.name (length texts) (start + 4)
   path ← named (slice_get texts numbers.path) numbers.path (length texts) (start + 8)
-  unit ← named (slice_get texts numbers.«module») numbers.«module» (length texts) (start + 12)
-  Ok (record { name = name; path = path; «module» = unit })
+  module_path ← named (slice_get texts numbers.«module») numbers.«module» (length texts) (start + 12)
+  Ok (record { name = name; path = path; «module» = module_path })
 
 -- what is left of the limits on texts
 abbrev pub text_limits : Allowance → TextLimits

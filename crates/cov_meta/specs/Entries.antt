@@ -1,5 +1,5 @@
 -- Where the package blobs stand.
-use Rattle.std.specs.Prelude.{ℕ, List, Result, Ok, Err}
+use Rattle.std.specs.Prelude.{ℕ, List, Result, Ok}
 use Rattle.cov_bytes.specs.Reading.{little_at}
 use Rattle.cov_bytes.specs.Many.{◌>>=◌, many}
 use Rattle.cov_meta.specs.declared.fault.MetaFault.{MetaFault}

@@ -1,5 +1,5 @@
 -- Faults of meta files.
-use Rattle.std.specs.Prelude.{◌≡◌, ℕ, List, Result, Ok, Err}
+use Rattle.std.specs.Prelude.{◌≡◌, ℕ, Result, Ok, Err}
 use Rattle.cov_bytes.specs.declared.cursor.CutFault.{CutFault}
 use Rattle.cov_bytes.specs.declared.cursor.CutFault.TheVariants as cut_fault
 use Rattle.cov_bytes.specs.declared.text_limits.TableFault.{TableFault}

@@ -1,10 +1,9 @@
 -- The header of a meta file.
-use Rattle.std.specs.Prelude.{◌≡◌, ℕ, ◌+◌, Bool, List, Result, Ok, Err, if◌then◌else◌, ◌==◌, nat_lt}
+use Rattle.std.specs.Prelude.{ℕ, List, Result, Ok, Err, if◌then◌else◌, ◌==◌, nat_lt}
 use Rattle.cov_bytes.specs.Reading.{take_at, byte_at, little_at}
 use Rattle.cov_bytes.specs.Many.{◌>>=◌}
 use Rattle.cov_outside.specs.declared.mode.Mode.{Mode}
 use Rattle.cov_outside.specs.declared.mode.Mode.TheVariants.{Set, Count, Atomic}
-use Rattle.cov_outside.specs.declared.data_kind.DataKind.{DataKind}
 use Rattle.cov_outside.specs.declared.data_kind.DataKind.TheVariants as kinds
 use Rattle.cov_outside.specs.declared.limit.Which.TheVariants.{Packages}
 use Rattle.cov_meta.specs.declared.fault.MetaFault.{MetaFault}

@@ -5,3 +5,4 @@ pub mod Entries
 pub mod Function
 pub mod Blob
 pub mod File
+pub mod Spelling

@@ -7,6 +7,7 @@ mod entries;
 mod fault;
 mod function;
 mod header;
+pub mod laws;
 mod meta;
 mod read;
 

@@ -1,4 +1,4 @@
-use Rattle.std.proofs.Common.{◌≡◌, ℕ, ◌-◌, ◌+◌, ◌<◌, List, [], length, take, arith, sym, ◌∙◌, ap}
+use Rattle.std.proofs.Common.{◌<◌, [], length, arith, sym, ◌∙◌, ap}
 use Rattle.std.specs.Option.{option_copied}
 use Rattle.std.proofs.lemmas.Option.{slice_get-get_or}
 use Rattle.cov_meta.proofs.Tables.{bytes_more}

@@ -1,8 +1,8 @@
-use Rattle.std.proofs.Common.{◌∙◌, refl, sym}
+use Rattle.std.proofs.Common.{◌∙◌}
 use Rattle.std.proofs.lemmas.Result.{err_from_is_err_and}
 use Rattle.cov_meta.specs.Fault.{Fails-further}
 use Rattle.cov_meta.specs.Entries.{offset_at}
-use Rattle.cov_bytes.specs.Many.{goes_on, ends, is_done, many}
+use Rattle.cov_bytes.specs.Many.{goes_on, ends, is_done}
 use Rattle.cov_meta.proofs.entries.read_offsets.Goals as goal
 
 pub returns-in_err-place : goal.returns-in_err-place

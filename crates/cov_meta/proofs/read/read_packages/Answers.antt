@@ -1,4 +1,3 @@
-use Rattle.std.proofs.Common.{ap, ◌∙◌}
 use Rattle.std.proofs.lemmas.Result.{err_from_is_err_and}
 use Rattle.cov_meta.specs.Fault.{Fails-further}
 use Rattle.cov_meta.specs.File.{package_at, packages_at}

@@ -1,4 +1,5 @@
 use Rattle.std.proofs.Common.{◌≡◌, ◌≤◌, ◌-◌, vec_len}
+use Rattle.cov_counter.proofs.Fronts.{IsFrontIn}
 use Rattle.cov_counter.proofs.held.Held.read.Given as goal
 
 abbrev pub invariant-more : goal.invariant-more
@@ -7,6 +8,7 @@ invariant-more g l = record {
   same : g.F.Files.tree l.files ≡ g.F.Files.tree l.fn.files;
   reads : g.F.Files.read_faults l.files ≡ g.F.Files.read_faults l.fn.files;
   puts : g.F.Files.put_faults l.files ≡ g.F.Files.put_faults l.fn.files;
+  front : IsFrontIn (g.F.Files.tree l.files) l.path l.bytes.items;
 }
 
 abbrev pub decreases-more : goal.decreases-more

@@ -1,0 +1,21 @@
+use Rattle.std.proofs.Common.{◌∙◌, refl}
+use Rattle.std.proofs.lemmas.Result.{err_from_is_err_and}
+use Rattle.cov_counter.specs.Each.{each-goes_on, each-ends, each-is_done}
+use Rattle.cov_counter.specs.Fault.{Fails-further}
+use Rattle.cov_counter.specs.Rest.{behind_zero}
+use Rattle.cov_counter.proofs.rest.skip_zeros.Goals as goal
+
+pub returns-in_err-skip_zero : goal.returns-in_err-skip_zero
+returns-in_err-skip_zero c =
+    let p = err_from_is_err_and c.from_residual.result c.from_residual.ensures.1 in
+    rw (p.1, p.2) (Fails-further c.in_err-skip_zero.field-0.0 _ _ c.in_err-skip_zero.ensures
+    (λ f e. each-ends (behind_zero c.args.source.now.file) c.args.length c.loop.counter c.loop.source.at f _ c.loop-test.true (rw (← c.loop.invariant.same) e) c.loop.invariant.so_far))
+
+pub loop-preserved : goal.loop-preserved
+loop-preserved c = record {
+  so_far = each-goes_on (behind_zero c.args.source.now.file) c.args.length c.loop.counter c.loop.source.at c.skip_zero.new.source.at _ c.loop-test.true (rw (← c.loop.invariant.same) c.in_ok-skip_zero.ensures.0) c.loop.invariant.so_far;
+  same = c.in_ok-skip_zero.ensures.1 ∙ c.loop.invariant.same;
+}
+
+pub returns : goal.returns
+returns c = (each-is_done (behind_zero c.args.source.now.file) c.args.length c.loop.counter c.loop.source.at _ c.loop-test.false c.loop.invariant.so_far, c.loop.invariant.same)

@@ -1,0 +1,30 @@
+-- Faults of counter files.
+use Rattle.std.specs.Prelude.{◌≡◌, ℕ, Bool, Result, Ok, Err, if◌then◌else◌}
+use Rattle.cov_bytes.specs.declared.cursor.CutFault.{CutFault}
+use Rattle.cov_bytes.specs.declared.cursor.CutFault.TheVariants as cut_fault
+use Rattle.cov_outside.specs.declared.data_kind.DataKind.TheVariants as kinds
+use Rattle.cov_outside.specs.declared.limit.Which.TheVariants.{DataBytes}
+use Rattle.cov_counter.specs.declared.fault.CounterFault.{CounterFault}
+use Rattle.cov_counter.specs.declared.fault.CounterFault.TheVariants as faults
+
+-- Why a field can't be read. Bytes that are there but may not be read are the limit on data files.
+abbrev pub fault_of : Bool → CutFault → CounterFault
+fault_of more (cut_fault.Short at) = if more then faults.Limit DataBytes else faults.At at kinds.Short
+fault_of more (cut_fault.NumberTooLong at) = faults.At at kinds.NumberTooLong
+fault_of more (cut_fault.NumberTooLarge at) = faults.At at kinds.NumberTooLarge
+
+-- a fault that comes from the bytes alone is the one that is there, and want of memory may come anywhere
+abbrev pub Fails : {Y : Type 0} → CounterFault → Result Y CounterFault → Type 0
+Fails faults.NoMemory there = Unit {0}
+Fails (faults.At offset kind) there = there ≡ Err (faults.At offset kind)
+Fails (faults.Limit w) there = there ≡ Err (faults.Limit w)
+Fails faults.Missing there = ⊥
+Fails faults.Read there = ⊥
+
+-- a fault of a part is the fault of the whole
+pub Fails-further : {A B : Type 0} (e : CounterFault) (r : Result A CounterFault) (total : Result B CounterFault) → Fails e r → ((f : CounterFault) → r ≡ Err f → total ≡ Err f) → Fails e total
+Fails-further faults.NoMemory r total h carry = tt
+Fails-further (faults.At offset kind) r total h carry = carry (faults.At offset kind) h
+Fails-further (faults.Limit w) r total h carry = carry (faults.Limit w) h
+Fails-further faults.Missing r total h carry = absurd h
+Fails-further faults.Read r total h carry = absurd h
