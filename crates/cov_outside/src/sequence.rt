@@ -1,9 +1,10 @@
 //! A `Vec` that contracts see as the list of its items.
-ghost use Rattle.std.specs.Prelude.{◌≡◌, [], ◌∷◌, ◌++◌, length, IsTrue, ◌↔◌, OnOk, OnErr};
+ghost use Rattle.std.specs.Prelude.{◌≡◌, ◌<◌, [], ◌∷◌, ◌++◌, length, slice_index_or, slice_set, IsTrue, ◌↔◌, OnOk, OnErr};
 
 use crate::fault::NoMemory;
 use std::alloc::Global;
 use std::marker::Model;
+use std::mem::replace;
 
 /// Items in order. It is made from a `Vec` and gives it back, so that it costs no memory.
 #[derive(Debug, Drop)]
@@ -70,5 +71,14 @@ impl<T: Drop> Sequence<T> {
     {
         self.items.push(item)?;
         Ok(())
+    }
+
+    /// Puts an item in the place of another, which it gives back.
+    pub fn replace(&mut self, i: usize, item: T) -> T
+        requires { i < length self.old }
+        ensures item { result ≡ slice_index_or self.old i result }
+        ensures after { self.new ≡ slice_set self.old i item }
+    {
+        replace(&mut self.items[i], item)
     }
 }

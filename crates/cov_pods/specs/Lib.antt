@@ -1,2 +1,5 @@
+pub mod Decoding
+pub mod Faults
 pub mod Names
+pub mod Outside
 pub mod Paths

@@ -1,1 +1,2 @@
 pub mod OneDir
+pub mod Pieces

@@ -1,2 +1,4 @@
+pub mod Line
+pub mod Outside
 pub mod Profile
 pub mod Refusals

@@ -7,6 +7,8 @@ use Rattle.cov_table.specs.declared.refusal.TableRefusal.{TableRefusal}
 use Rattle.cov_table.specs.declared.refusal.TableRefusal.TheVariants as table_refusal
 use Rattle.gocov_tools.specs.declared.refusal.Refusal.{Refusal}
 use Rattle.gocov_tools.specs.declared.refusal.Refusal.TheVariants as refusals
+use Rattle.gocov_tools.specs.declared.status.Status.{Status}
+use Rattle.gocov_tools.specs.declared.status.Status.TheVariants as statuses
 
 abbrev pub of_files : FilesFault → Refusal
 of_files files_fault.Failed = refusals.Read
@@ -23,3 +25,10 @@ of_pod pod_fault.NoMemory = refusals.NoMemory
 abbrev pub of_table : TableRefusal → Refusal
 of_table (table_refusal.ModeClash first second) = refusals.NotBuilt
 of_table table_refusal.NoMemory = refusals.NoMemory
+
+-- the answer of a refused command
+abbrev pub answer_of : Refusal → Status
+answer_of refusals.NotBuilt = statuses.NotBuilt
+answer_of (refusals.Missing path) = statuses.Missing path
+answer_of refusals.Read = statuses.ReadFault
+answer_of refusals.NoMemory = statuses.NoMemory

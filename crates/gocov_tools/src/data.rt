@@ -2,7 +2,9 @@
 ghost use Rattle.std.specs.Prelude.{◌≡◌, All, IfSome};
 ghost use Rattle.std.specs.Option.{option_copied};
 ghost use Rattle.std.specs.Str.{IsUtf8};
+ghost use Rattle.gocov_tools.specs.Outside.{Causes, KeepsTree};
 ghost use Rattle.gocov_tools.specs.Profile as spec;
+ghost use Rattle.gocov_tools.specs.Refusals.{answer_of};
 
 use crate::profile::profile_of;
 use crate::refusal::Refusal;
@@ -12,7 +14,9 @@ use cov_report::Filter;
 use gocov_words::DataArgs;
 use std::alloc::Global;
 
-fn status_of(refusal: Refusal) -> Status {
+fn status_of(refusal: Refusal) -> Status
+    ensures { result ≡ answer_of refusal }
+{
     match refusal {
         Refusal::NotBuilt => Status::NotBuilt,
         Refusal::Missing { path } => Status::Missing { path },
@@ -24,6 +28,8 @@ fn status_of(refusal: Refusal) -> Status {
 /// Puts a file, the last thing that a command does.
 fn put_last<F: Files>(files: &mut F, path: &Text, bytes: &[u8]) -> Status
     requires { IsUtf8 path.now }
+    ensures causes { Causes result (F.read_faults files.old) (F.read_faults files.new) (F.put_faults files.old) (F.put_faults files.new) }
+    ensures kept { KeepsTree result (F.tree files.old) (F.tree files.new) }
 {
     match files.put(path.as_str(), bytes) {
         Ok(()) => Status::Done(0),
@@ -48,6 +54,8 @@ fn only_dir(dirs: &[Text]) -> Option<&Text>
 fn put_profile<F: Files>(alloc: Global, files: &mut F, dir: &Text, path: &Text) -> Status
     requires dir { IsUtf8 dir.now }
     requires path { IsUtf8 path.now }
+    ensures causes { Causes result (F.read_faults files.old) (F.read_faults files.new) (F.put_faults files.old) (F.put_faults files.new) }
+    ensures kept { KeepsTree result (F.tree files.old) (F.tree files.new) }
 {
     let filter = Filter {
         patterns: Sequence::new(alloc),
@@ -63,9 +71,14 @@ pub fn covdata<F: Files, O: Sink>(
     alloc: Global,
     args: &DataArgs,
     files: &mut F,
-    _out: &mut O,
+    out: &mut O,
     _stamp: Stamp,
-) -> Status {
+) -> Status
+    ensures causes { Causes result (F.read_faults files.old) (F.read_faults files.new) (F.put_faults files.old) (F.put_faults files.new) }
+    ensures kept { KeepsTree result (F.tree files.old) (F.tree files.new) }
+    ensures out { O.contents out.new ≡ O.contents out.old }
+    ensures outs { O.faults out.new ≡ O.faults out.old }
+{
     let Some(path) = &args.out else {
         return Status::NotBuilt;
     };

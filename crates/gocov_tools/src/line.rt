@@ -1,48 +1,60 @@
 //! The line of an answer.
+ghost use Rattle.std.specs.Prelude.{◌≡◌, OnOk, OnErr};
+ghost use Rattle.std.specs.List.{flat_map};
+ghost use Rattle.std.specs.Io.KnownBytes.{append_known};
+ghost use Rattle.cov_outside.specs.Faults.{Counts, HasPrefix};
+ghost use Rattle.gocov_tools.specs.Line.{line_of, Finishes, HasLine, HasPart};
+
 use crate::status::Status;
-use cov_outside::{FilesFault, NoMemory, Sink, write_whole};
-use std::alloc::Global;
+use cov_outside::{FilesFault, Sink, write_whole};
 
-/// The line that is written to standard error for an answer, with its newline; no bytes where there is none.
-fn line_of(alloc: Global, status: &Status) -> Result<Vec<u8>, NoMemory> {
-    let text = match status {
-        Status::Done(_) => b"".as_slice(),
-        Status::NotBuilt => b"gocov: not built\n".as_slice(),
-        Status::Missing { path } => return missing_line(alloc, path.bytes()),
-        Status::ReadFault => b"gocov: read fault\n".as_slice(),
-        Status::WriteFault => b"gocov: write fault\n".as_slice(),
-        Status::NoMemory => b"gocov: out of memory\n".as_slice(),
-    };
-    Vec::from_slice(alloc, text)
+/// Writes pieces one after the other. After an `Err` the sink has received a front of them.
+fn write_pieces<E: Sink>(err: &mut E, pieces: &[&[u8]]) -> Result<(), FilesFault>
+    ensures ok { OnOk result (E.contents err.new ≡ append_known (E.contents err.old) (flat_map (λ p. p.now) pieces.now)) }
+    ensures err { OnErr result (HasPrefix (E.contents err.old) (E.contents err.new) (flat_map (λ p. p.now) pieces.now)) }
+    ensures cause { Counts (E.faults err.old) (E.faults err.new) result }
+{
+    for piece in pieces {
+        write_whole(err, piece)?;
+    }
+    Ok(())
 }
 
-fn missing_line(alloc: Global, path: &[u8]) -> Result<Vec<u8>, NoMemory> {
-    let mut line = Vec::from_slice(alloc, b"gocov: ")?;
-    line.extend_from_slice(path)?;
-    line.extend_from_slice(b": Missing\n")?;
-    Ok(line)
-}
-
-/// Writes the line of want of memory, if it can be written.
-fn out_of_memory<E: Sink>(err: &mut E) -> Status {
-    let _ = write_whole(err, b"gocov: out of memory\n");
-    Status::NoMemory
+/// Writes the line of an answer; none for `Done`.
+fn write_line<E: Sink>(err: &mut E, status: &Status) -> Result<(), FilesFault>
+    ensures ok { OnOk result (E.contents err.new ≡ append_known (E.contents err.old) (line_of status.now)) }
+    ensures err { OnErr result (HasPrefix (E.contents err.old) (E.contents err.new) (line_of status.now)) }
+    ensures cause { Counts (E.faults err.old) (E.faults err.new) result }
+{
+    match status {
+        Status::Done(_) => write_pieces(err, &[]),
+        Status::NotBuilt => write_pieces(err, &[b"gocov: not built\n".as_slice()]),
+        Status::Missing { path } => write_pieces(
+            err,
+            &[
+                b"gocov: ".as_slice(),
+                path.bytes(),
+                b": Missing\n".as_slice(),
+            ],
+        ),
+        Status::ReadFault => write_pieces(err, &[b"gocov: read fault\n".as_slice()]),
+        Status::WriteFault => write_pieces(err, &[b"gocov: write fault\n".as_slice()]),
+        Status::NoMemory => write_pieces(err, &[b"gocov: out of memory\n".as_slice()]),
+    }
 }
 
 /// Writes the line of an answer, and says what the answer is then.
-pub fn finish<E: Sink>(alloc: Global, err: &mut E, status: Status) -> Status {
-    if let Status::Done(_) = status {
-        return status;
-    }
-    if let Status::NoMemory = status {
-        return out_of_memory(err);
-    }
-    let Ok(line) = line_of(alloc, &status) else {
-        return out_of_memory(err);
-    };
-    match write_whole(err, &line) {
+pub fn finish<E: Sink>(err: &mut E, status: Status) -> Status
+    ensures answer { Finishes status result (E.faults err.old) (E.faults err.new) }
+    ensures line { HasLine result (E.faults err.old) (E.faults err.new) (E.contents err.old) (E.contents err.new) }
+    ensures part { HasPart (line_of status) (E.contents err.old) (E.contents err.new) }
+{
+    match write_line(err, &status) {
         Ok(()) => status,
         Err(FilesFault::NoMemory) => Status::NoMemory,
-        Err(FilesFault::Failed) => Status::WriteFault,
+        Err(FilesFault::Failed) => match status {
+            Status::NoMemory => Status::NoMemory,
+            _ => Status::WriteFault,
+        },
     }
 }

@@ -3,6 +3,7 @@ ghost use Rattle.std.specs.Prelude.{◌≡◌, All, IfOk, IfSome};
 ghost use Rattle.std.specs.Option.{option_copied};
 ghost use Rattle.std.specs.Str.{IsUtf8};
 ghost use Rattle.cov_pods.specs.Paths.{HasTextPaths};
+ghost use Rattle.gocov_tools.specs.Outside.{CountsRead};
 ghost use Rattle.gocov_tools.specs.Profile as spec;
 
 use crate::refusal::Refusal;
@@ -16,6 +17,9 @@ use std::alloc::Global;
 fn pods_in<F: Files>(alloc: Global, files: &mut F, dir: &Text) -> Result<Vec<Pod>, Refusal>
     requires { IsUtf8 dir.now }
     ensures utf8 { IfOk result (λ pods. All HasTextPaths pods.items) }
+    ensures same { F.tree files.new ≡ F.tree files.old }
+    ensures cause { CountsRead (F.read_faults files.old) (F.read_faults files.new) result }
+    ensures puts { F.put_faults files.new ≡ F.put_faults files.old }
 {
     let names = files.list(alloc, dir.as_str())?;
     let dir = dir.clone()?;
@@ -43,6 +47,9 @@ fn profile_of_pod<F: Files>(
     filter: &Filter,
 ) -> Result<Vec<u8>, Refusal>
     requires { HasTextPaths pod.now }
+    ensures same { F.tree files.new ≡ F.tree files.old }
+    ensures cause { CountsRead (F.read_faults files.old) (F.read_faults files.new) result }
+    ensures puts { F.put_faults files.new ≡ F.put_faults files.old }
 {
     let decoded = decode_pod(alloc, files, pod, None)?;
     let mut table = Table::new(alloc);
@@ -58,6 +65,9 @@ pub fn profile_of<F: Files>(
     filter: &Filter,
 ) -> Result<Vec<u8>, Refusal>
     requires { IsUtf8 dir.now }
+    ensures same { F.tree files.new ≡ F.tree files.old }
+    ensures cause { CountsRead (F.read_faults files.old) (F.read_faults files.new) result }
+    ensures puts { F.put_faults files.new ≡ F.put_faults files.old }
 {
     let pods = pods_in(alloc, files, dir)?;
     match only_pod(&pods) {

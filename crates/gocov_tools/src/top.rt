@@ -1,5 +1,7 @@
 //! The top call.
-ghost use Rattle.std.specs.Prelude.{◌≡◌, map};
+ghost use Rattle.std.specs.Prelude.{◌≡◌};
+ghost use Rattle.gocov_tools.specs.Outside.{Causes, KeepsTree, TopCauses};
+ghost use Rattle.gocov_tools.specs.Line.{HasLine};
 
 use crate::data::covdata;
 use crate::journal::Journal;
@@ -18,7 +20,12 @@ fn answer<F: Files, O: Sink>(
     files: &mut F,
     out: &mut O,
     stamp: Stamp,
-) -> Status {
+) -> Status
+    ensures causes { Causes result (F.read_faults files.old) (F.read_faults files.new) (F.put_faults files.old) (F.put_faults files.new) }
+    ensures kept { KeepsTree result (F.tree files.old) (F.tree files.new) }
+    ensures out { O.contents out.new ≡ O.contents out.old }
+    ensures outs { O.faults out.new ≡ O.faults out.old }
+{
     match read_words(alloc, words) {
         Ok(Command::Covdata(args)) => covdata(alloc, &args, files, out, stamp),
         Err(WordsFault::NotBuilt) => Status::NotBuilt,
@@ -36,8 +43,15 @@ pub fn gocov<R: Threads + Wait + Sync, F: Files, O: Sink, E: Sink, G: Gate>(
     err: &mut E,
     stamp: Stamp,
     _gate: &G,
-    _journal: &mut Journal,
-) -> Status {
+    journal: &mut Journal,
+) -> Status
+    ensures causes { TopCauses result (F.read_faults files.old) (F.read_faults files.new) (F.put_faults files.old) (F.put_faults files.new) (E.faults err.old) (E.faults err.new) }
+    ensures kept { KeepsTree result (F.tree files.old) (F.tree files.new) }
+    ensures line { HasLine result (E.faults err.old) (E.faults err.new) (E.contents err.old) (E.contents err.new) }
+    ensures out { O.contents out.new ≡ O.contents out.old }
+    ensures outs { O.faults out.new ≡ O.faults out.old }
+    ensures journal { journal.new ≡ journal.old }
+{
     let status = answer(alloc, words, files, out, stamp);
-    finish(alloc, err, status)
+    finish(err, status)
 }

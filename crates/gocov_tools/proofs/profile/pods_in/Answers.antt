@@ -3,7 +3,6 @@ use Rattle.std.specs.Str.{IsUtf8}
 use Rattle.gocov_tools.proofs.OneDir.{one_dir}
 use Rattle.gocov_tools.proofs.profile.pods_in.Goals as goal
 
-pub returns : goal.returns
-returns g c = record {
-  utf8 = c.in_ok-collect.ensures.utf8 (one_dir (record { dir = c.in_ok-dir.dir; names = c.from_vec-names.result }) (subst IsUtf8 (sym c.in_ok-dir.ensures) c.requires, subst (All IsUtf8) (sym c.from_vec-names.ensures) c.in_ok-names.ensures.utf8));
-}
+pub returns-clause-utf8 : goal.returns-clause-utf8
+returns-clause-utf8 g c =
+    c.in_ok-collect.ensures.utf8 (one_dir (record { dir = c.in_ok-dir.dir; names = c.from_vec-names.result }) (subst IsUtf8 (sym c.in_ok-dir.ensures) c.requires, subst (All IsUtf8) (sym c.from_vec-names.ensures) c.in_ok-names.ensures.utf8))

@@ -1,0 +1,13 @@
+use Rattle.std.proofs.Common.{◌≡◌, ◌-◌}
+use Rattle.cov_counter.specs.Reader.{IsReady, IsBefore}
+use Rattle.cov_pods.proofs.decode.add_entries.Given as goal
+
+abbrev pub invariant-loop : goal.invariant-loop
+invariant-loop g l = record {
+  reference : l.reader.files.ghost_name ≡ l.fn.reader.files.ghost_name;
+  ready : IsReady (g.F.Files.tree l.reader.files.now) l.reader.path.now l.reader.held l.reader.stage;
+  left : IsBefore (l.entries - l.counter) l.reader.stage;
+  same : g.F.Files.tree l.reader.files.now ≡ g.F.Files.tree l.fn.reader.files.now;
+  reads : g.F.Files.read_faults l.reader.files.now ≡ g.F.Files.read_faults l.fn.reader.files.now;
+  puts : g.F.Files.put_faults l.reader.files.now ≡ g.F.Files.put_faults l.fn.reader.files.now;
+}

@@ -1,0 +1,9 @@
+use Rattle.std.proofs.Common.{◌≡◌}
+use Rattle.cov_pods.proofs.decode.add_files.Given as goal
+
+abbrev pub invariant-loop-path : goal.invariant-loop-path
+invariant-loop-path g l = record {
+  same : g.F.Files.tree l.files ≡ g.F.Files.tree l.fn.files;
+  reads : g.F.Files.read_faults l.files ≡ g.F.Files.read_faults l.fn.files;
+  puts : g.F.Files.put_faults l.files ≡ g.F.Files.put_faults l.fn.files;
+}

@@ -1,0 +1,36 @@
+-- The line that is written for an answer, and what the answer is then.
+use Rattle.std.specs.Prelude.{◌≡◌, ◌⊎◌, ℕ, List, [], ◌++◌, Option, codes}
+use Rattle.std.specs.Io.KnownBytes.{append_known}
+use Rattle.cov_outside.specs.Faults.{Rose, Count, HasPrefix}
+use Rattle.gocov_tools.specs.declared.status.Status.{Status}
+use Rattle.gocov_tools.specs.declared.status.Status.TheVariants as statuses
+
+-- the line of an answer, with its newline
+abbrev pub line_of : Status → List ℕ
+line_of (statuses.Done n) = []
+line_of statuses.NotBuilt = codes "gocov: not built\n"
+line_of (statuses.Missing path) = codes "gocov: " ++ path ++ codes ": Missing\n"
+line_of statuses.ReadFault = codes "gocov: read fault\n"
+line_of statuses.WriteFault = codes "gocov: write fault\n"
+line_of statuses.NoMemory = codes "gocov: out of memory\n"
+
+-- the answer stays where its line was written, and becomes a write fault only where the sink failed
+abbrev pub Spoils : Status → Status → Count → Count → Type 0
+Spoils status result before now = ((result ≡ status) × (now ≡ before)) ⊎ (((result ≡ statuses.WriteFault) × Rose before now) ⊎ ((result ≡ statuses.NoMemory) × (now ≡ before)))
+
+-- what the answer is after its line was written, or could not be; want of memory stays what it is
+abbrev pub Finishes : Status → Status → Count → Count → Type 0
+Finishes (statuses.Done n) result before now = Spoils (statuses.Done n) result before now
+Finishes statuses.NotBuilt result before now = Spoils statuses.NotBuilt result before now
+Finishes (statuses.Missing path) result before now = Spoils (statuses.Missing path) result before now
+Finishes statuses.ReadFault result before now = Spoils statuses.ReadFault result before now
+Finishes statuses.WriteFault result before now = Spoils statuses.WriteFault result before now
+Finishes statuses.NoMemory result before now = result ≡ statuses.NoMemory
+
+-- the sink received the line of the answer, unless it failed or memory ran out
+abbrev pub HasLine : Status → Count → Count → Option (List ℕ) → Option (List ℕ) → Type 0
+HasLine status before now old new = (status ≡ statuses.NoMemory) ⊎ (Rose before now ⊎ (new ≡ append_known old (line_of status)))
+
+-- the sink received a front of a line
+abbrev pub HasPart : List ℕ → Option (List ℕ) → Option (List ℕ) → Type 0
+HasPart line old new = HasPrefix old new line
