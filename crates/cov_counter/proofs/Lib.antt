@@ -1,2 +1,12 @@
 pub mod Fronts
 pub mod Beyond
+pub mod Bind
+pub mod Fields
+pub mod Turns
+pub mod SpelledParts
+pub mod SpelledLengths
+pub mod SpelledHead
+pub mod SpelledEntry
+pub mod SpelledRest
+pub mod SpelledFile
+pub mod Written

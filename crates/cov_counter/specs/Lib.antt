@@ -7,3 +7,5 @@ pub mod Entry
 pub mod Rest
 pub mod Outside
 pub mod Reader
+pub mod Spelling
+pub mod Text

@@ -1,6 +1,7 @@
 -- The string table and the arguments of a counter file.
-use Rattle.std.specs.Prelude.{◌≡◌, ℕ, ◌+◌, ◌-◌, ◌%◌, Result, Ok, Err, if◌then◌else◌, nat_lt}
+use Rattle.std.specs.Prelude.{ℕ, Result, Ok, Err, if◌then◌else◌, nat_lt}
 use Rattle.cov_bytes.specs.Reading.{uleb_at, take_at, little_at}
+use Rattle.cov_bytes.specs.Writing.{padding}
 use Rattle.cov_bytes.specs.Many.{◌>>=◌}
 use Rattle.cov_outside.specs.declared.data_kind.DataKind.TheVariants as kinds
 use Rattle.cov_counter.specs.declared.fault.CounterFault.{CounterFault}
@@ -54,13 +55,10 @@ args_at strings len file at = do
   pairs ← pairs_at strings (up_to args.1 file) at
   Ok (pairs.0, args.1)
 
--- how many bytes are missing up to a multiple of 4
-abbrev pub missing : ℕ → ℕ
-missing at = (4 - at % 4) % 4
-
+-- the bytes up to a multiple of 4 aren't looked at
 unfoldable pub behind_padding : Known → ℕ → Result ℕ CounterFault
 behind_padding file at = do
-  padding ← field file (take_at (missing at) file.bytes at)
+  padding ← field file (take_at (padding at) file.bytes at)
   Ok padding.1
 
 -- two lengths, the parts and the padding: the number of pairs

@@ -3,7 +3,7 @@ use Rattle.std.specs.Prelude.{◌≡◌, ℕ, ◌-◌, ◌<◌, List, Option, So
 use Rattle.std.specs.FinMap as map
 use Rattle.cov_outside.specs.Tree.{Tree}
 use Rattle.cov_outside.specs.Faults.{Count}
-use Rattle.cov_bytes.specs.Many.{◌>>=◌}
+use Rattle.cov_bytes.specs.Many.{◌>>=◌, many}
 use Rattle.cov_counter.specs.declared.fault.CounterFault.{CounterFault}
 use Rattle.cov_counter.specs.declared.head.Head.{Head}
 use Rattle.cov_counter.specs.declared.entry.Entry.{Entry}
@@ -34,6 +34,22 @@ end_of at there = do
   file ← file_at there
   end ← behind_rest file at
   Ok tt
+
+-- an entry with its offset, and the offset behind it
+unfoldable pub turn_of : Head → Option (List ℕ) → ℕ → Result ((ℕ × Entry) × ℕ) CounterFault
+turn_of head there at = do
+  entry ← entry_of head at there
+  Ok ((at, entry.0), entry.1)
+
+-- a whole file: its head, and the entries with their offsets
+unfoldable pub whole_of : Option (List ℕ) → Result (Head × List (ℕ × Entry)) CounterFault
+whole_of there = do
+  head ← start_of there
+  entries ← many (turn_of head.0 there) head.0.entries head.1
+  end ← end_of entries.1 there
+  Ok (head.0, entries.0)
+
+-- ---- where a reader stands
 
 -- a reader stands before entries of which this many are left
 abbrev pub IsBefore : ℕ → Stage → Type 0

@@ -202,9 +202,9 @@ impl<'a, F: Files> CounterReader<'a, F> {
                         };
                         Ok(Some((at, entry)))
                     }
-                    Err(fault) => {
-                        self.stage = Stage::Failed(fault);
-                        Err(fault)
+                    Err(first) => {
+                        self.stage = Stage::Failed(first);
+                        Err(first)
                     }
                 }
             }

@@ -1,5 +1,7 @@
+ghost use Rattle.std.specs.Prelude.{◌≤◌, length, IfOk};
+
 use super::*;
-use cov_outside::{DataKind, MemoryFiles, NoMemory, Which};
+use cov_outside::{DataKind, MemoryFiles, NoMemory, Sequence, Which};
 use std::alloc::Global;
 use std::test::Fail;
 
@@ -16,6 +18,12 @@ const PAIRS: [u8; 52] = [
     9, 0, 4, 0x61, 0x72, 0x67, 0x63, 1, 0x31, 5, 0x61, 0x72, 0x67, 0x76, 0x30, 3, 0x2e, 0x2f, 0x6d,
     4, 0x47, 0x4f, 0x4f, 0x53, 5, 0x6c, 0x69, 0x6e, 0x75, 0x78, 6, 0x47, 0x4f, 0x41, 0x52, 0x43,
     0x48, 5, 0x61, 0x6d, 0x64, 0x36, 0x34, 4, 1, 2, 3, 4, 5, 6, 7, 8,
+];
+
+/// The lengths, parts and entries of a second segment, and a footer that counts two.
+const TWO_SEGMENTS: [u8; 38] = [
+    1, 0, 0, 0, 0, 0, 0, 0, 1, 0, 0, 0, 3, 0, 0, 0, 3, 0, 0, 1, 1, 0, 0, 0x63, 0x77, 0x6d, 0, 0, 0,
+    0, 2, 0, 0, 0, 0, 0, 0, 0,
 ];
 
 /// Some bytes of the example, from an offset on, replaced.
@@ -110,6 +118,44 @@ fn the_example_is_read(rt: HostRuntime) -> Result<(), Fail> {
     Ok(())
 }
 
+fn entry_of(alloc: Global, package: u32, function: u32, counts: &[u32]) -> Result<Entry, NoMemory>
+    requires { length counts.now ≤ 1048576 }
+    ensures { IfOk result (λ e. length e.counts ≤ 1048576) }
+{
+    Ok(Entry {
+        package,
+        function,
+        counts: Sequence::from_vec(Vec::from_slice(alloc, counts)?),
+    })
+}
+
+#[test]
+fn the_example_is_written(rt: HostRuntime) -> Result<(), Fail> {
+    let alloc = rt.alloc();
+    let entry = entry_of(alloc, 0, 0, &[1, 1, 0])?;
+    let bytes = write_counters(alloc, &[0x11; 16], &[entry])?;
+    assert!(rt; bytes.as_slice() == EXAMPLE.as_slice());
+    let none = write_counters(alloc, &[0x11; 16], &[])?;
+    assert_eq!(rt; none.len(), 68);
+    assert_eq!(rt; fault_of(alloc, &none)?, None);
+    Ok(())
+}
+
+#[test]
+fn what_is_written_is_read(rt: HostRuntime) -> Result<(), Fail> {
+    let alloc = rt.alloc();
+    let first = entry_of(alloc, 0, 200, &[u32::MAX, 0])?;
+    let second = entry_of(alloc, 3, 1, &[128])?;
+    let bytes = write_counters(alloc, &[7; 16], &[first, second])?;
+    let mut files = MemoryFiles::new(alloc, &[])?;
+    files.add("c", &bytes)?;
+    let said = said_by(alloc, &mut files, "c").expect(&rt, "what was written");
+    assert_eq!(rt; said.head.hash, [7; 16]);
+    assert!(rt; said.offsets.as_slice() == [52, 62].as_slice());
+    assert!(rt; said.numbers.as_slice() == [0, 200, u32::MAX, 0, 3, 1, 128].as_slice());
+    Ok(())
+}
+
 #[test]
 fn a_cut_file_is_short_at_the_field_that_lacks_bytes(rt: HostRuntime) -> Result<(), Fail> {
     let alloc = rt.alloc();
@@ -146,7 +192,7 @@ fn a_broken_rule_is_the_fault_at_its_field(rt: HostRuntime) -> Result<(), Fail> 
     let alloc = rt.alloc();
     let no_string = DataKind::BadString { index: 0, count: 0 };
     let two = DataKind::Segments { count: 2 };
-    let cases: [(usize, usize, &'static [u8], Option<CounterFault>); 22] = [
+    let cases: [(usize, usize, &'static [u8], Option<CounterFault>); 23] = [
         (0, 1, &[1], at(0, DataKind::BadMagic)),
         (4, 1, &[2], at(4, DataKind::BadVersion)),
         (24, 1, &[0], at(24, DataKind::BadFlavour)),
@@ -178,6 +224,7 @@ fn a_broken_rule_is_the_fault_at_its_field(rt: HostRuntime) -> Result<(), Fail> 
         (58, 0, &[0, 0, 0, 0], at(58, DataKind::Trailing)),
         (58, 1, &[1], at(58, DataKind::BadMagic)),
         (66, 1, &[2], at(66, two)),
+        (58, 16, &TWO_SEGMENTS, at(58, DataKind::Trailing)),
         (74, 0, &[0], at(59, DataKind::BadMagic)),
     ];
     for (from, cut, put, want) in cases {

@@ -12,3 +12,14 @@ pub mod SpelledPackage
 pub mod SpelledPackages
 pub mod SpelledHeader
 pub mod SpelledFile
+pub mod Faults
+pub mod Hashing
+pub mod Interning
+pub mod Pieces
+pub mod BlobLemmas
+pub mod Limits
+pub mod Lengths
+pub mod Stands
+pub mod WrittenSpells
+pub mod WrittenFunctions
+pub mod WrittenBlobs

@@ -6,3 +6,5 @@ pub mod Function
 pub mod Blob
 pub mod File
 pub mod Spelling
+pub mod Hash
+pub mod Written

@@ -23,7 +23,8 @@ pub record IsFixed (width : ℕ) (bytes : List ℕ) (at value next : ℕ) : Type
   pub whole : next ≤ length bytes
   pub value_is : little_number width (drop at bytes) ≡ value
 
--- a ULEB128 number below 2^32 of at most ten bytes: groups of seven bits, the lowest first, with the high bit set on all bytes but the last
+-- a ULEB128 number (DWARF 4, section 7.6) below 2^32 of at most ten bytes: groups of seven bits,
+-- the lowest first, where all bytes but the last have the high bit
 pub record IsUleb (bytes : List ℕ) (at value next : ℕ) : Type 0 where
   pub front : List ℕ
   pub last : ℕ
@@ -56,10 +57,12 @@ pub record IsTable (bytes : List ℕ) (at : ℕ) (texts : List (List ℕ)) : Typ
 
 -- ---- functions and packages
 
+-- the five numbers of a unit
 abbrev pub unit_numbers : MetaUnit → List ℕ
 unit_numbers u = u.start.line ∷ u.start.column ∷ u.end.line ∷ u.end.column ∷ u.statements ∷ []
 
--- the record of a function: the number of units, the numbers of its name and file in the string table, the units, the literal flag
+-- the record of a function: the number of its units, the numbers of its name and file in the
+-- string table, its units, and the literal flag
 pub record IsFunction (texts : List (List ℕ)) (bytes : List ℕ) (at : ℕ) (f : MetaFunction) : Type 0 where
   pub name_number : ℕ
   pub file_number : ℕ
@@ -70,7 +73,9 @@ pub record IsFunction (texts : List (List ℕ)) (bytes : List ℕ) (at : ℕ) (f
   pub file_is : slice_get texts file_number ≡ Some f.file
   pub literal_is : f.literal ≡ not (flag == 0)
 
--- a blob from start up to the end of the bytes, with these texts: the numbers of the package's name, path and module path, the number of functions, the offsets of their records from start, the string table, and the records
+-- a blob from start up to the end of the bytes: the numbers of the package's name, path and module
+-- path in the string table, the number of functions, where their records stand from start on, the
+-- string table with these texts, and the records
 pub record IsPackage (texts : List (List ℕ)) (bytes : List ℕ) (start : ℕ) (p : MetaPackage) : Type 0 where
   pub name_number : ℕ
   pub path_number : ℕ
@@ -110,12 +115,14 @@ pub record KeepsLimits (blobs : List Blob) (packages : List MetaPackage) : Type 
   pub few_text_bytes : sum_by (λ b. sum_by length b.texts) blobs ≤ 268435456
   pub short_texts : All (λ b. All (λ t. length t ≤ 2048) b.texts) blobs
 
+-- the byte of a mode
 abbrev pub mode_number : Mode → ℕ
 mode_number Set = 1
 mode_number Count = 2
 mode_number Atomic = 3
 
--- the header, the offsets of all blobs, their lengths, and the blobs
+-- the header, the offsets of all blobs, their lengths, and the blobs; the magic number's bytes are
+-- 00 63 76 6d
 pub record Spells (bytes : List ℕ) (file : MetaFile) : Type 0 where
   pub blobs : List Blob
   pub lengths : ℕ

@@ -35,3 +35,6 @@ pub use stamp::Stamp;
 pub use text::Text;
 pub use whole::{WholeFault, read_whole};
 pub use whole_write::write_whole;
+
+#[cfg(test)]
+mod tests;

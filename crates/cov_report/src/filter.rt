@@ -1,5 +1,7 @@
 //! Which packages a report shows.
-ghost use Rattle.std.specs.Prelude.{◌≡◌, IsTrue, ◌↔◌};
+ghost use Rattle.std.specs.Prelude.{◌≡◌};
+ghost use Rattle.std.specs.List.{list_any};
+ghost use Rattle.cov_report.specs.Filter.{is_at_or_below, matches, keeps};
 
 use cov_outside::{Sequence, Text};
 
@@ -13,7 +15,9 @@ pub struct Filter {
 }
 
 /// Whether a path is one at or below another.
-fn is_at_or_below(path: &[u8], above: &[u8]) -> bool {
+fn is_under(path: &[u8], above: &[u8]) -> bool
+    ensures { result ≡ is_at_or_below above.now path.now }
+{
     match path.strip_prefix(above) {
         None => false,
         Some([]) => true,
@@ -21,21 +25,28 @@ fn is_at_or_below(path: &[u8], above: &[u8]) -> bool {
     }
 }
 
-fn matches_pattern(pattern: &[u8], path: &[u8]) -> bool {
+fn matches_pattern(pattern: &[u8], path: &[u8]) -> bool
+    ensures { result ≡ matches pattern.now path.now }
+{
     match pattern.strip_suffix(b"/...") {
-        Some(above) => is_at_or_below(path, above),
+        Some(above) => is_under(path, above),
         None => pattern == path,
     }
 }
 
+fn matches_any(patterns: &[Text], path: &[u8]) -> bool
+    ensures { result ≡ list_any (λ pattern. matches pattern path.now) patterns.now }
+{
+    patterns
+        .iter()
+        .any(|pattern| matches_pattern(pattern.bytes(), path))
+}
+
 impl Filter {
     /// Whether a package is kept.
-    pub fn keeps(&self, path: &[u8]) -> bool {
-        self.patterns.is_empty()
-            || self
-                .patterns
-                .as_slice()
-                .iter()
-                .any(|pattern| matches_pattern(pattern.bytes(), path))
+    pub fn keeps(&self, path: &[u8]) -> bool
+        ensures { result ≡ keeps self.now.patterns path.now }
+    {
+        self.patterns.is_empty() || matches_any(self.patterns.as_slice(), path)
     }
 }

@@ -1,9 +1,12 @@
 //! The text profile.
-ghost use Rattle.std.specs.Prelude.{◌≡◌, ◌++◌, OnOk, codes, decimal};
+ghost use Rattle.std.specs.Prelude.{◌≡◌, ◌++◌, ◌∷◌, [], IfOk, OnOk, decimal};
+ghost use Rattle.std.specs.List.{flat_map};
+ghost use Rattle.cov_table.specs.Unit.{unit_entry};
+ghost use Rattle.cov_report.specs.TextProfile.{place_text, unit_line, kept_units, text_profile_of};
 
 use crate::filter::Filter;
 use cov_outside::NoMemory;
-use cov_table::{Table, Unit};
+use cov_table::{Table, Unit, Units};
 use itoa::Buffer;
 use std::alloc::Global;
 
@@ -18,7 +21,7 @@ fn push_number(text: &mut Vec<u8>, n: u32) -> Result<(), NoMemory>
 
 /// Appends a line and a column with a dot between them.
 fn push_place(text: &mut Vec<u8>, line: u32, column: u32) -> Result<(), NoMemory>
-    ensures { OnOk result (text.new.items ≡ text.old.items ++ decimal line ++ codes "." ++ decimal column) }
+    ensures { OnOk result (text.new.items ≡ text.old.items ++ place_text line column) }
 {
     push_number(text, line)?;
     text.push(b'.')?;
@@ -26,7 +29,9 @@ fn push_place(text: &mut Vec<u8>, line: u32, column: u32) -> Result<(), NoMemory
 }
 
 /// Appends the line of a unit: its file, where it starts and ends, its statements and its count.
-fn push_unit(text: &mut Vec<u8>, unit: &Unit<'_>) -> Result<(), NoMemory> {
+fn push_unit(text: &mut Vec<u8>, unit: &Unit<'_>) -> Result<(), NoMemory>
+    ensures { OnOk result (text.new.items ≡ text.old.items ++ unit_line (unit_entry unit.now)) }
+{
     text.extend_from_slice(unit.file)?;
     text.push(b':')?;
     push_place(text, unit.start_line, unit.start_column)?;
@@ -40,8 +45,32 @@ fn push_unit(text: &mut Vec<u8>, unit: &Unit<'_>) -> Result<(), NoMemory> {
     Ok(())
 }
 
+/// Appends the line of a unit whose package is kept.
+fn push_kept(text: &mut Vec<u8>, unit: &Unit<'_>, filter: &Filter) -> Result<(), NoMemory>
+    ensures { OnOk result (text.new.items ≡ text.old.items ++ flat_map unit_line (kept_units filter.now.patterns (unit_entry unit.now ∷ []))) }
+{
+    if filter.keeps(unit.package_path) {
+        push_unit(text, unit)?;
+    }
+    Ok(())
+}
+
+/// Appends the lines of the units whose packages are kept.
+fn push_units(text: &mut Vec<u8>, units: &Units<'_>, filter: &Filter) -> Result<(), NoMemory>
+    ensures { OnOk result (text.new.items ≡ text.old.items ++ flat_map unit_line (kept_units filter.now.patterns units.now)) }
+{
+    for i in 0..units.len() {
+        if let Some(unit) = units.get(i) {
+            push_kept(text, &unit, filter)?;
+        }
+    }
+    Ok(())
+}
+
 /// The text profile of a table: its mode, and a line for each unit in order. An empty table has no bytes.
-pub fn textfmt(alloc: Global, table: &Table, filter: &Filter) -> Result<Vec<u8>, NoMemory> {
+pub fn textfmt(alloc: Global, table: &Table, filter: &Filter) -> Result<Vec<u8>, NoMemory>
+    ensures { IfOk result (λ text. text.items ≡ text_profile_of table.now filter.now.patterns) }
+{
     let mut text = Vec::new(alloc);
     let Some(mode) = table.mode() else {
         return Ok(text);
@@ -49,13 +78,6 @@ pub fn textfmt(alloc: Global, table: &Table, filter: &Filter) -> Result<Vec<u8>,
     text.extend_from_slice(b"mode: ")?;
     text.extend_from_slice(mode.name())?;
     text.push(b'\n')?;
-    let units = table.units(alloc)?;
-    for i in 0..units.len() {
-        if let Some(unit) = units.get(i) {
-            if filter.keeps(unit.package_path) {
-                push_unit(&mut text, &unit)?;
-            }
-        }
-    }
+    push_units(&mut text, &table.units(alloc)?, filter)?;
     Ok(text)
 }

@@ -1,0 +1,10 @@
+pub mod Zips
+pub mod Pool
+pub mod Adding
+pub mod Keys
+pub mod Counting
+pub mod Firsts
+pub mod Walk
+pub mod Settling
+pub mod PackageSettling
+pub mod Tables

@@ -3,6 +3,7 @@
 
 mod gather;
 mod order;
+mod package_order;
 mod refusal;
 mod row;
 mod settle;

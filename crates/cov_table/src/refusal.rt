@@ -1,5 +1,6 @@
 //! Why a table can't take a pod or another table.
 ghost use Rattle.std.specs.Prelude.{◌≡◌};
+ghost use Rattle.cov_table.specs.Refusal.{ClashesExactly};
 ghost use Rattle.cov_table.specs.declared.refusal.TableRefusal.TheVariants as table_refusal;
 
 use cov_outside::Mode;
@@ -26,5 +27,17 @@ impl<T: Drop> From<AllocFailed<T>> for TableRefusal {
 
     fn from(_e: AllocFailed<T>) -> TableRefusal {
         TableRefusal::NoMemory
+    }
+}
+
+/// Refuses two modes that differ.
+pub fn agree(first: Option<Mode>, second: Option<Mode>) -> Result<(), TableRefusal>
+    ensures { ClashesExactly result first second }
+{
+    match (first, second) {
+        (Some(first), Some(second)) if first != second => {
+            Err(TableRefusal::ModeClash { first, second })
+        }
+        _ => Ok(()),
     }
 }

@@ -14,3 +14,11 @@ pub struct Row {
     pub statements: u32,
     pub count: u32,
 }
+
+/// A package's path, name and module path, by their numbers.
+#[derive(Clone, Copy, Debug)]
+pub struct PackageRow {
+    pub path: u32,
+    pub name: u32,
+    pub module: u32,
+}

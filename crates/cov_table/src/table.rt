@@ -1,15 +1,22 @@
 //! Tables.
-use crate::gather::add_packages;
-use crate::refusal::TableRefusal;
-use crate::row::Row;
-use crate::settle::{combine, sort};
+ghost use Rattle.std.specs.Prelude.{◌≡◌, ◌++◌, Some, IfOk, OnErr, OnOk};
+ghost use Rattle.std.specs.FinMap as finmap;
+ghost use Rattle.cov_table.specs.Coverage.{empty, with_pod};
+ghost use Rattle.cov_table.specs.Refusal.{ClashesExactly};
+
+use crate::gather::{Gathered, gather_pod};
+use crate::package_order::settle_packages;
+use crate::refusal::{TableRefusal, agree};
+use crate::row::{PackageRow, Row};
+use crate::settle::{combine, settle, sort};
 use crate::units::Units;
 use cov_bytes::StringTable;
 use cov_outside::{Mode, NoMemory};
 use cov_pods::DecodedPod;
 use std::alloc::Global;
+use std::marker::Model;
 
-/// A count for each unit, in the mode of the first pod.
+/// A count for each unit, in the mode of the first pod, and the packages by their paths.
 ///
 /// Rows are added without order. They are sorted and combined before they are read, and whenever those added since
 /// outnumber the others, so that many pods with equal units take the memory of one.
@@ -21,60 +28,113 @@ pub struct Table {
     rows: Vec<Row>,
     /// How many rows there were when they were combined last.
     settled: usize,
+    packages: Vec<PackageRow>,
+    settled_packages: usize,
+}
+
+impl Model for Table {
+    ghost use Rattle.cov_table.specs.Coverage.{Coverage, coverage_code};
+
+    ghost Value = { Coverage };
+
+    ghost coded = { coverage_code };
+
+    ghost use Rattle.cov_table.specs.Rows.{coverage_of, IsTable};
+
+    ghost view = { λ t. coverage_of t.mode t.texts t.rows.items t.packages.items };
+
+    ghost invariant = { λ t. IsTable t.mode t.texts t.rows.items t.packages.items };
+}
+
+/// Appends both kinds of rows, or none.
+fn append(
+    rows: &mut Vec<Row>,
+    packages: &mut Vec<PackageRow>,
+    mut more: Gathered,
+) -> Result<(), NoMemory>
+    ensures rows { OnOk result (rows.new.items ≡ rows.old.items ++ more.rows.items) }
+    ensures packages { OnOk result (packages.new.items ≡ packages.old.items ++ more.packages.items) }
+    ensures rows_kept { OnErr result (rows.new.items ≡ rows.old.items) }
+    ensures packages_kept { OnErr result (packages.new.items ≡ packages.old.items) }
+{
+    let count = packages.len();
+    packages.append(&mut more.packages)?;
+    let appended = rows.append(&mut more.rows);
+    if appended.is_err() {
+        packages.truncate(count);
+    }
+    appended
 }
 
 impl Table {
     /// A table without a mode and without units.
-    pub fn new(alloc: Global) -> Table {
+    pub fn new(alloc: Global) -> Table
+        ensures { result ≡ empty }
+    {
         Table {
             alloc,
             mode: None,
             texts: StringTable::new(alloc),
             rows: Vec::new(alloc),
             settled: 0,
+            packages: Vec::new(alloc),
+            settled_packages: 0,
         }
     }
 
     /// The mode of the pods that were added.
-    pub fn mode(&self) -> Option<Mode> {
+    pub fn mode(&self) -> Option<Mode>
+        ensures { result ≡ self.now.mode }
+    {
         self.mode
     }
 
-    /// Adds the counts of a pod.
-    pub fn add_pod(&mut self, pod: &DecodedPod) -> Result<(), TableRefusal> {
-        let second = pod.file.meta.mode;
-        if let Some(first) = self.mode {
-            if first != second {
-                return Err(TableRefusal::ModeClash { first, second });
-            }
-        }
-        self.settle(second)?;
-        let mut rows = Vec::new(self.alloc);
-        let packages = pod.file.meta.packages.as_slice();
-        add_packages(&mut self.texts, &mut rows, packages, pod.counts.as_slice())?;
-        self.rows.append(&mut rows)?;
-        self.mode = Some(second);
+    /// Adds the counts of a pod. After a refusal the table is as before.
+    pub fn add_pod(&mut self, pod: &DecodedPod) -> Result<(), TableRefusal>
+        ensures ok { OnOk result (self.new ≡ with_pod self.old pod.now) }
+        ensures clash { ClashesExactly result self.old.mode (Some pod.now.file.meta.mode) }
+        ensures err { OnErr result (self.new ≡ self.old) }
+    {
+        let mode = pod.file.meta.mode;
+        agree(self.mode, Some(mode))?;
+        self.settle()?;
+        let more = gather_pod(self.alloc, &mut self.texts, pod)?;
+        append(&mut self.rows, &mut self.packages, more)?;
+        self.mode = Some(mode);
         Ok(())
     }
 
     /// Combines the rows where those added since the last time outnumber the others.
-    fn settle(&mut self, mode: Mode) -> Result<(), NoMemory> {
-        if self.rows.len() / 2 <= self.settled {
+    fn settle(&mut self) -> Result<(), NoMemory>
+        ensures { self.new ≡ self.old }
+    {
+        let Some(mode) = self.mode else {
             return Ok(());
-        }
-        sort(&self.texts, &mut self.rows)?;
-        self.rows = combine(self.alloc, mode, &self.texts, &self.rows)?;
-        self.settled = self.rows.len();
-        Ok(())
+        };
+        settle(
+            self.alloc,
+            mode,
+            &self.texts,
+            &mut self.rows,
+            &mut self.settled,
+        )?;
+        settle_packages(
+            self.alloc,
+            &self.texts,
+            &mut self.packages,
+            &mut self.settled_packages,
+        )
     }
 
     /// The units in order with their counts.
-    pub fn units(&self, alloc: Global) -> Result<Units<'_>, NoMemory> {
+    pub fn units(&self, alloc: Global) -> Result<Units<'_>, NoMemory>
+        ensures { IfOk result (λ units. units ≡ finmap.entries self.now.counts) }
+    {
+        let Some(mode) = self.mode else {
+            return Ok(Units::new(&self.texts, Vec::new(alloc)));
+        };
         let mut rows = Vec::from_slice(alloc, &self.rows)?;
         sort(&self.texts, &mut rows)?;
-        if let Some(mode) = self.mode {
-            rows = combine(alloc, mode, &self.texts, &rows)?;
-        }
-        Ok(Units::new(&self.texts, rows))
+        Ok(Units::new(&self.texts, combine(alloc, mode, &self.texts, &rows)?))
     }
 }

@@ -1,7 +1,11 @@
 //! The units of a table in order.
+ghost use Rattle.std.specs.Prelude.{◌≡◌, length, slice_get};
+ghost use Rattle.std.specs.Option.{option_map};
+
 use crate::order::text_of;
 use crate::row::Row;
 use cov_bytes::StringTable;
+use std::marker::Model;
 
 /// A unit with its count.
 #[derive(Clone, Copy, Debug)]
@@ -25,18 +29,42 @@ pub struct Units<'a> {
     rows: Vec<Row>,
 }
 
+impl<'a> Model for Units<'a> {
+    ghost use Rattle.std.specs.Prelude.{List, ℕ, map};
+    ghost use Rattle.std.specs.Coded.{coded_list, coded×, coded_ℕ};
+    ghost use Rattle.cov_table.specs.Key.{Key, key_code};
+
+    ghost Value = { List (Key × ℕ) };
+
+    ghost coded = { coded_list (coded× key_code coded_ℕ) };
+
+    ghost use Rattle.cov_table.specs.Rows.{row_entry};
+
+    ghost view = { λ u. map (row_entry u.texts.now) u.rows.items };
+}
+
 impl<'a> Units<'a> {
-    pub(crate) fn new(texts: &'a StringTable, rows: Vec<Row>) -> Units<'a> {
+    ghost use Rattle.std.specs.Prelude.{map};
+    ghost use Rattle.cov_table.specs.Rows.{row_entry};
+    ghost use Rattle.cov_table.specs.Unit.{unit_entry};
+
+    pub(crate) fn new(texts: &'a StringTable, rows: Vec<Row>) -> Units<'a>
+        ensures { result ≡ map (row_entry texts.now) rows.items }
+    {
         Units { texts, rows }
     }
 
     /// How many units there are.
-    pub fn len(&self) -> usize {
+    pub fn len(&self) -> usize
+        ensures { result ≡ length self.now }
+    {
         self.rows.len()
     }
 
     /// The unit at a place in the order, from 0.
-    pub fn get(&self, i: usize) -> Option<Unit<'a>> {
+    pub fn get(&self, i: usize) -> Option<Unit<'a>>
+        ensures { option_map unit_entry result ≡ slice_get self.now i }
+    {
         let row = self.rows.get(i)?;
         Some(Unit {
             package_path: text_of(self.texts, row.package_path),

@@ -1,3 +1,4 @@
+use Rattle.cov_meta.proofs.Faults.{never_memory}
 use Rattle.cov_meta.proofs.SpelledFile.{file_spells, file_reads, one_value}
 use Rattle.cov_meta.proofs.laws.laws.Goals as goal
 
@@ -9,3 +10,6 @@ returns-clause-spelled_is_read c = file_reads
 
 pub returns-clause-one_value : goal.returns-clause-one_value
 returns-clause-one_value c = one_value
+
+pub returns-clause-own_fault : goal.returns-clause-own_fault
+returns-clause-own_fault c = never_memory
