@@ -2,4 +2,5 @@ pub mod Faults
 pub mod Tree
 pub mod Memory
 pub mod Mode
+pub mod Limits
 pub mod Whole

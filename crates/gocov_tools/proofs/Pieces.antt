@@ -5,7 +5,7 @@ use Rattle.std.specs.List.{flat_map}
 use Rattle.std.specs.Io.KnownBytes.{append_known}
 use Rattle.std.proofs.lemmas.Grind.{flat_map-append}
 use Rattle.std.proofs.lemmas.List.{take_more, take-append-drop, append-nil, take-append-le, get_or_default}
-use Rattle.std.proofs.Math.Seq.{take-append-add}
+use Rattle.std.proofs.Math.Seq.{take-append-add, take-append_seam}
 use Rattle.cov_outside.specs.Faults.{HasPrefix}
 
 abbrev pub Piece : Type 0
@@ -58,3 +58,9 @@ on_err (Err e) p = p
 pub cut_off_at : (pieces : List Piece) (i : ℕ) (d : Piece) (known now later : Option (List ℕ)) → i < length pieces
     → now ≡ append_known known (text_of (take i pieces)) → HasPrefix now later (get_or pieces i d).now → HasPrefix known later (text_of pieces)
 cut_off_at pieces i d known now later lt = cut_off pieces i (get_or pieces i d) known now later lt (get_or_default pieces i d (get_or pieces i d) lt)
+
+-- the whole is a front
+pub whole : (known later : Option (List ℕ)) (text : List ℕ) → later ≡ append_known known text → HasPrefix known later text
+whole known later text e =
+    let all : take (length text) text ≡ text = ap (take (length text)) (sym (append-nil text)) ∙ take-append_seam text [] in
+    (length text, omega arith, e ∙ ap (append_known known) (sym all))

@@ -1,18 +1,40 @@
 -- The line that is written for an answer, and what the answer is then.
-use Rattle.std.specs.Prelude.{◌≡◌, ◌⊎◌, ℕ, List, [], ◌++◌, Option, codes}
+use Rattle.std.specs.Prelude.{◌≡◌, ◌⊎◌, ℕ, List, [], ◌++◌, Option, codes, decimal}
 use Rattle.std.specs.Io.KnownBytes.{append_known}
 use Rattle.cov_outside.specs.Faults.{Rose, Count, HasPrefix}
+use Rattle.cov_outside.specs.Limits.{kind_name, limit_name, limit_number}
 use Rattle.gocov_tools.specs.declared.status.Status.{Status}
 use Rattle.gocov_tools.specs.declared.status.Status.TheVariants as statuses
+
+-- what is wrong with a data file, at which byte
+abbrev pub data_line : List ℕ → List ℕ → List ℕ → List ℕ
+data_line path offset kind = codes "gocov: " ++ (path ++ (codes ": byte " ++ (offset ++ (codes ": " ++ (kind ++ codes "\n")))))
+
+-- which limit was passed, and its number
+abbrev pub limit_line : List ℕ → List ℕ → List ℕ
+limit_line name number = codes "gocov: limit " ++ (name ++ (codes " " ++ (number ++ codes "\n")))
 
 -- the line of an answer, with its newline
 abbrev pub line_of : Status → List ℕ
 line_of (statuses.Done n) = []
 line_of statuses.NotBuilt = codes "gocov: not built\n"
-line_of (statuses.Missing path) = codes "gocov: " ++ path ++ codes ": Missing\n"
+line_of (statuses.Missing path) = codes "gocov: " ++ (path ++ codes ": Missing\n")
+line_of (statuses.Data path offset kind) = data_line path (decimal offset) (kind_name kind)
+line_of (statuses.InputLimit w) = limit_line (limit_name w) (decimal (limit_number w))
 line_of statuses.ReadFault = codes "gocov: read fault\n"
 line_of statuses.WriteFault = codes "gocov: write fault\n"
 line_of statuses.NoMemory = codes "gocov: out of memory\n"
+
+-- the exit status of an answer
+abbrev pub code_of : Status → ℕ
+code_of (statuses.Done n) = n
+code_of statuses.NotBuilt = 3
+code_of (statuses.Missing path) = 1
+code_of (statuses.Data path offset kind) = 1
+code_of (statuses.InputLimit w) = 1
+code_of statuses.ReadFault = 4
+code_of statuses.WriteFault = 4
+code_of statuses.NoMemory = 5
 
 -- the answer stays where its line was written, and becomes a write fault only where the sink failed
 abbrev pub Spoils : Status → Status → Count → Count → Type 0
@@ -23,6 +45,8 @@ abbrev pub Finishes : Status → Status → Count → Count → Type 0
 Finishes (statuses.Done n) result before now = Spoils (statuses.Done n) result before now
 Finishes statuses.NotBuilt result before now = Spoils statuses.NotBuilt result before now
 Finishes (statuses.Missing path) result before now = Spoils (statuses.Missing path) result before now
+Finishes (statuses.Data path offset kind) result before now = Spoils (statuses.Data path offset kind) result before now
+Finishes (statuses.InputLimit w) result before now = Spoils (statuses.InputLimit w) result before now
 Finishes statuses.ReadFault result before now = Spoils statuses.ReadFault result before now
 Finishes statuses.WriteFault result before now = Spoils statuses.WriteFault result before now
 Finishes statuses.NoMemory result before now = result ≡ statuses.NoMemory

@@ -12,6 +12,8 @@ abbrev pub CountsRead : {X : Type 0} → Count → Count → Result X Refusal �
 CountsRead before now (Ok x) = now ≡ before
 CountsRead before now (Err refusals.NotBuilt) = now ≡ before
 CountsRead before now (Err (refusals.Missing path)) = now ≡ before
+CountsRead before now (Err (refusals.Data path offset kind)) = now ≡ before
+CountsRead before now (Err (refusals.Limit w)) = now ≡ before
 CountsRead before now (Err refusals.Read) = Rose before now
 CountsRead before now (Err refusals.NoMemory) = now ≡ before
 
@@ -21,6 +23,8 @@ abbrev pub Causes : Status → Count → Count → Count → Count → Type 0
 Causes (statuses.Done n) reads reads' puts puts' = (reads' ≡ reads) × (puts' ≡ puts)
 Causes statuses.NotBuilt reads reads' puts puts' = (reads' ≡ reads) × (puts' ≡ puts)
 Causes (statuses.Missing path) reads reads' puts puts' = (reads' ≡ reads) × (puts' ≡ puts)
+Causes (statuses.Data path offset kind) reads reads' puts puts' = (reads' ≡ reads) × (puts' ≡ puts)
+Causes (statuses.InputLimit w) reads reads' puts puts' = (reads' ≡ reads) × (puts' ≡ puts)
 Causes statuses.ReadFault reads reads' puts puts' = Rose reads reads' × (puts' ≡ puts)
 Causes statuses.WriteFault reads reads' puts puts' = (reads' ≡ reads) × Rose puts puts'
 Causes statuses.NoMemory reads reads' puts puts' = (reads' ≡ reads) × (puts' ≡ puts)
@@ -30,6 +34,8 @@ abbrev pub KeepsTree : Status → Option Tree → Option Tree → Type 0
 KeepsTree (statuses.Done n) old new = Unit {0}
 KeepsTree statuses.NotBuilt old new = new ≡ old
 KeepsTree (statuses.Missing path) old new = new ≡ old
+KeepsTree (statuses.Data path offset kind) old new = new ≡ old
+KeepsTree (statuses.InputLimit w) old new = new ≡ old
 KeepsTree statuses.ReadFault old new = new ≡ old
 KeepsTree statuses.WriteFault old new = Unit {0}
 KeepsTree statuses.NoMemory old new = Unit {0}
@@ -39,6 +45,8 @@ abbrev pub TopCauses : Status → Count → Count → Count → Count → Count 
 TopCauses (statuses.Done n) reads reads' puts puts' errs errs' = (reads' ≡ reads) × (puts' ≡ puts) × (errs' ≡ errs)
 TopCauses statuses.NotBuilt reads reads' puts puts' errs errs' = (reads' ≡ reads) × (puts' ≡ puts) × (errs' ≡ errs)
 TopCauses (statuses.Missing path) reads reads' puts puts' errs errs' = (reads' ≡ reads) × (puts' ≡ puts) × (errs' ≡ errs)
+TopCauses (statuses.Data path offset kind) reads reads' puts puts' errs errs' = (reads' ≡ reads) × (puts' ≡ puts) × (errs' ≡ errs)
+TopCauses (statuses.InputLimit w) reads reads' puts puts' errs errs' = (reads' ≡ reads) × (puts' ≡ puts) × (errs' ≡ errs)
 TopCauses statuses.ReadFault reads reads' puts puts' errs errs' = Rose reads reads' × (puts' ≡ puts) × (errs' ≡ errs)
 TopCauses statuses.WriteFault reads reads' puts puts' errs errs' = Rose puts puts' ⊎ Rose errs errs'
 TopCauses statuses.NoMemory reads reads' puts puts' errs errs' = Unit {0}

@@ -15,9 +15,9 @@ of_files files_fault.Failed = refusals.Read
 of_files files_fault.NoMemory = refusals.NoMemory
 
 abbrev pub of_pod : PodFault → Refusal
-of_pod (pod_fault.Data path offset kind) = refusals.NotBuilt
+of_pod (pod_fault.Data path offset kind) = refusals.Data path offset kind
 of_pod (pod_fault.Mode mode) = refusals.NotBuilt
-of_pod (pod_fault.Limit w) = refusals.NotBuilt
+of_pod (pod_fault.Limit w) = refusals.Limit w
 of_pod (pod_fault.Missing path) = refusals.Missing path
 of_pod pod_fault.Read = refusals.Read
 of_pod pod_fault.NoMemory = refusals.NoMemory
@@ -30,5 +30,7 @@ of_table table_refusal.NoMemory = refusals.NoMemory
 abbrev pub answer_of : Refusal → Status
 answer_of refusals.NotBuilt = statuses.NotBuilt
 answer_of (refusals.Missing path) = statuses.Missing path
+answer_of (refusals.Data path offset kind) = statuses.Data path offset kind
+answer_of (refusals.Limit w) = statuses.InputLimit w
 answer_of refusals.Read = statuses.ReadFault
 answer_of refusals.NoMemory = statuses.NoMemory

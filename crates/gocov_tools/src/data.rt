@@ -20,6 +20,8 @@ fn status_of(refusal: Refusal) -> Status
     match refusal {
         Refusal::NotBuilt => Status::NotBuilt,
         Refusal::Missing { path } => Status::Missing { path },
+        Refusal::Data { path, offset, kind } => Status::Data { path, offset, kind },
+        Refusal::Limit(which) => Status::InputLimit(which),
         Refusal::Read => Status::ReadFault,
         Refusal::NoMemory => Status::NoMemory,
     }

@@ -1,12 +1,14 @@
 //! The line of an answer.
-ghost use Rattle.std.specs.Prelude.{◌≡◌, OnOk, OnErr};
+ghost use Rattle.std.specs.Prelude.{◌≡◌, OnOk, OnErr, decimal};
 ghost use Rattle.std.specs.List.{flat_map};
 ghost use Rattle.std.specs.Io.KnownBytes.{append_known};
 ghost use Rattle.cov_outside.specs.Faults.{Counts, HasPrefix};
-ghost use Rattle.gocov_tools.specs.Line.{line_of, Finishes, HasLine, HasPart};
+ghost use Rattle.cov_outside.specs.Limits.{kind_name, limit_name, limit_number};
+ghost use Rattle.gocov_tools.specs.Line.{line_of, data_line, limit_line, Finishes, HasLine, HasPart};
 
 use crate::status::Status;
-use cov_outside::{FilesFault, Sink, write_whole};
+use cov_outside::{DataKind, FilesFault, Sink, Text, Which, write_whole};
+use itoa::Buffer;
 
 /// Writes pieces one after the other. After an `Err` the sink has received a front of them.
 fn write_pieces<E: Sink>(err: &mut E, pieces: &[&[u8]]) -> Result<(), FilesFault>
@@ -18,6 +20,61 @@ fn write_pieces<E: Sink>(err: &mut E, pieces: &[&[u8]]) -> Result<(), FilesFault
         write_whole(err, piece)?;
     }
     Ok(())
+}
+
+fn write_data_line<'a, E: Sink>(
+    err: &mut E,
+    path: &'a [u8],
+    offset: &'a [u8],
+    kind: &'a [u8],
+) -> Result<(), FilesFault>
+    ensures ok { OnOk result (E.contents err.new ≡ append_known (E.contents err.old) (data_line path.now offset.now kind.now)) }
+    ensures err { OnErr result (HasPrefix (E.contents err.old) (E.contents err.new) (data_line path.now offset.now kind.now)) }
+    ensures cause { Counts (E.faults err.old) (E.faults err.new) result }
+{
+    write_pieces(
+        err,
+        &[b"gocov: ", path, b": byte ", offset, b": ", kind, b"\n"],
+    )
+}
+
+/// Writes what is wrong with a data file.
+fn write_data<E: Sink>(
+    err: &mut E,
+    path: &Text,
+    offset: u64,
+    kind: &DataKind,
+) -> Result<(), FilesFault>
+    ensures ok { OnOk result (E.contents err.new ≡ append_known (E.contents err.old) (data_line path.now (decimal offset) (kind_name kind.now))) }
+    ensures err { OnErr result (HasPrefix (E.contents err.old) (E.contents err.new) (data_line path.now (decimal offset) (kind_name kind.now))) }
+    ensures cause { Counts (E.faults err.old) (E.faults err.new) result }
+{
+    let mut digits = Buffer::new();
+    let offset = digits.format(offset).as_bytes();
+    write_data_line(err, path.bytes(), offset, kind.name())
+}
+
+fn write_limit_line<'a, E: Sink>(
+    err: &mut E,
+    name: &'a [u8],
+    number: &'a [u8],
+) -> Result<(), FilesFault>
+    ensures ok { OnOk result (E.contents err.new ≡ append_known (E.contents err.old) (limit_line name.now number.now)) }
+    ensures err { OnErr result (HasPrefix (E.contents err.old) (E.contents err.new) (limit_line name.now number.now)) }
+    ensures cause { Counts (E.faults err.old) (E.faults err.new) result }
+{
+    write_pieces(err, &[b"gocov: limit ", name, b" ", number, b"\n"])
+}
+
+/// Writes which limit was passed.
+fn write_limit<E: Sink>(err: &mut E, which: Which) -> Result<(), FilesFault>
+    ensures ok { OnOk result (E.contents err.new ≡ append_known (E.contents err.old) (limit_line (limit_name which) (decimal (limit_number which)))) }
+    ensures err { OnErr result (HasPrefix (E.contents err.old) (E.contents err.new) (limit_line (limit_name which) (decimal (limit_number which)))) }
+    ensures cause { Counts (E.faults err.old) (E.faults err.new) result }
+{
+    let mut digits = Buffer::new();
+    let number = digits.format(which.number()).as_bytes();
+    write_limit_line(err, which.name(), number)
 }
 
 /// Writes the line of an answer; none for `Done`.
@@ -37,6 +94,8 @@ fn write_line<E: Sink>(err: &mut E, status: &Status) -> Result<(), FilesFault>
                 b": Missing\n".as_slice(),
             ],
         ),
+        Status::Data { path, offset, kind } => write_data(err, path, *offset, kind),
+        Status::InputLimit(which) => write_limit(err, *which),
         Status::ReadFault => write_pieces(err, &[b"gocov: read fault\n".as_slice()]),
         Status::WriteFault => write_pieces(err, &[b"gocov: write fault\n".as_slice()]),
         Status::NoMemory => write_pieces(err, &[b"gocov: out of memory\n".as_slice()]),

@@ -2,7 +2,7 @@
 ghost use Rattle.std.specs.Prelude.{◌≡◌};
 ghost use Rattle.gocov_tools.specs.declared.refusal.Refusal.TheVariants as refusal;
 
-use cov_outside::{FilesFault, Text};
+use cov_outside::{DataKind, FilesFault, Text, Which};
 use cov_pods::PodFault;
 use cov_table::TableRefusal;
 use std::alloc::{AllocError, AllocFailed};
@@ -11,7 +11,15 @@ use std::alloc::{AllocError, AllocFailed};
 #[derive(Debug, Drop)]
 pub enum Refusal {
     NotBuilt,
-    Missing { path: Text },
+    Missing {
+        path: Text,
+    },
+    Data {
+        path: Text,
+        offset: u64,
+        kind: DataKind,
+    },
+    Limit(Which),
     Read,
     NoMemory,
 }
@@ -53,7 +61,9 @@ impl From<PodFault> for Refusal {
 
     fn from(f: PodFault) -> Refusal {
         match f {
-            PodFault::Data { .. } | PodFault::Mode(_) | PodFault::Limit(_) => Refusal::NotBuilt,
+            PodFault::Data { path, offset, kind } => Refusal::Data { path, offset, kind },
+            PodFault::Mode(_) => Refusal::NotBuilt,
+            PodFault::Limit(which) => Refusal::Limit(which),
             PodFault::Missing { path } => Refusal::Missing { path },
             PodFault::Read => Refusal::Read,
             PodFault::NoMemory => Refusal::NoMemory,

@@ -1,5 +1,7 @@
 //! What a command answers.
-use cov_outside::Text;
+ghost use Rattle.std.specs.Prelude.{◌≡◌};
+
+use cov_outside::{DataKind, Text, Which};
 
 /// The answer of a command.
 #[derive(Debug, Drop)]
@@ -9,18 +11,32 @@ pub enum Status {
     /// What was asked for isn't built yet.
     NotBuilt,
     /// There is no file at the path.
-    Missing { path: Text },
+    Missing {
+        path: Text,
+    },
+    /// The first fault of a data file, and at which byte, from 0.
+    Data {
+        path: Text,
+        offset: u64,
+        kind: DataKind,
+    },
+    /// A counted quantity passes its limit.
+    InputLimit(Which),
     ReadFault,
     WriteFault,
     NoMemory,
 }
 
 impl Status {
+    ghost use Rattle.gocov_tools.specs.Line.{code_of};
+
     /// The exit status of the program.
-    pub fn code(&self) -> u8 {
+    pub fn code(&self) -> u8
+        ensures { result ≡ code_of self.now }
+    {
         match self {
             Status::Done(code) => *code,
-            Status::Missing { .. } => 1,
+            Status::Missing { .. } | Status::Data { .. } | Status::InputLimit(_) => 1,
             Status::NotBuilt => 3,
             Status::ReadFault | Status::WriteFault => 4,
             Status::NoMemory => 5,

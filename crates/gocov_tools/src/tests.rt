@@ -99,6 +99,8 @@ fn refusals(rt: HostRuntime) -> Result<(), Fail> {
     let alloc = rt.alloc();
     let none: &[u64] = &[];
     let built: &[u8] = b"gocov: not built\n";
+    let short: &[u8] =
+        b"gocov: c/covcounters.11111111111111111111111111111111.1.1: byte 58: Short\n";
     let read: &[u8] = b"gocov: read fault\n";
     let write: &[u8] = b"gocov: write fault\n";
     // Words, bytes of the counter file, failing calls of the files and of the sink of lines, status, line.
@@ -143,7 +145,7 @@ fn refusals(rt: HostRuntime) -> Result<(), Fail> {
             3,
             built,
         ),
-        (WORDS, 73, none, none, 3, built),
+        (WORDS, 73, none, none, 1, short),
         (WORDS, 74, [0].as_slice(), none, 4, read),
         (WORDS, 74, [1].as_slice(), none, 4, read),
         (WORDS, 74, [4].as_slice(), none, 4, read),
