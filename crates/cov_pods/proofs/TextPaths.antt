@@ -1,26 +1,51 @@
--- Pods whose paths are UTF-8.
-use Rattle.std.proofs.Common.{◌≡◌, ℕ, ◌<◌, List, [], ◌∷◌, ◌++◌, All, length, get_or, set, subst, sym, refl, rules}
-use Rattle.std.specs.Str.{IsUtf8}
-use Rattle.std.specs.Prelude.{codes}
-use Rattle.std.proofs.lemmas.List.Elements.{All-push, All-set, All-get_or}
+-- The paths of the pods of text names are UTF-8.
+use Rattle.std.proofs.Common.{ℕ, List, [], ◌∷◌, Option, Some, None, All, rules}
+use Rattle.std.specs.Prelude.{filter_map, option_map, filter, not}
+use Rattle.std.specs.List.{cons_option}
+use Rattle.std.specs.Str.{IsUtf8, bytes_eq}
+use Rattle.std.proofs.lemmas.List.Elements.{All-nil, All-cons, All-head, All-tail, All-append, All-filter, All-map, All-weaker}
 use Rattle.std.proofs.lemmas.Str.{IsUtf8-append, IsUtf8-from_ascii}
-use Rattle.cov_pods.specs.declared.pod.Pod.{Pod}
-use Rattle.cov_pods.specs.Paths.{HasTextPaths, path_in}
+use Rattle.cov_pods.specs.declared.pod.DirNames.{DirNames}
+use Rattle.cov_pods.specs.Names.{meta_hash, counter_hash}
+use Rattle.cov_pods.specs.Paths.{AreTextNames, HasTextPaths, path_in}
+use Rattle.cov_pods.specs.Pods.{Found, file_in, found_in, found, firsts, pod_of, pods_of}
+
+abbrev HasTextPath : Found → Type 0
+HasTextPath f = IsUtf8 f.path
 
 slash : IsUtf8 (47 ∷ [])
 slash = IsUtf8-from_ascii (47 ∷ []) (search rules)
 
-pub path_utf8 : (path dir name : List ℕ) → path ≡ path_in dir name → IsUtf8 dir → IsUtf8 name → IsUtf8 path
-path_utf8 path dir name e d n = subst IsUtf8 (sym e) (IsUtf8-append dir (47 ∷ name) d (IsUtf8-append (47 ∷ []) name slash n))
+path_utf8 : (dir name : List ℕ) → IsUtf8 dir → IsUtf8 name → IsUtf8 (path_in dir name)
+path_utf8 dir name d n = IsUtf8-append dir (47 ∷ name) d (IsUtf8-append (47 ∷ []) name slash n)
 
-pub pushed : (pods pods' : List Pod) (pod : Pod) → pods' ≡ pods ++ pod ∷ [] → All HasTextPaths pods → HasTextPaths pod → All HasTextPaths pods'
-pushed pods pods' pod e h p = subst (All HasTextPaths) (sym e) (All-push HasTextPaths pods pod h p)
+named_utf8 : (dir name : List ℕ) (hash : Option (List ℕ)) (rest : List Found) → IsUtf8 dir → IsUtf8 name → All HasTextPath rest → All HasTextPath (cons_option (option_map (file_in dir name) hash) rest)
+named_utf8 dir name None rest d n h = h
+named_utf8 dir name (Some hash) rest d n h = All-cons HasTextPath (file_in dir name hash) rest (path_utf8 dir name d n) h
 
-pub counted : (pods : List Pod) (i : ℕ) (was new : Pod) (path : List ℕ) → i < length pods → was ≡ get_or pods i was → new.meta ≡ was.meta → new.counters ≡ was.counters ++ path ∷ []
-    → All HasTextPaths pods → IsUtf8 path → All HasTextPaths (set pods i new)
-counted pods i was new path lt is meta counters h p =
-    let here : HasTextPaths was = subst HasTextPaths (sym is) (All-get_or HasTextPaths pods i was lt h) in
-    All-set HasTextPaths pods i new (subst IsUtf8 (sym meta) here.0, subst (All IsUtf8) (sym counters) (All-push IsUtf8 was.counters path here.1 p)) h
+names_utf8 : (hash_of : List ℕ → Option (List ℕ)) (dir : List ℕ) (names : List (List ℕ)) → IsUtf8 dir → All IsUtf8 names → All HasTextPath (filter_map (λ name. option_map (file_in dir name) (hash_of name)) names)
+names_utf8 hash_of dir [] d h = All-nil HasTextPath
+names_utf8 hash_of dir (name ∷ names) d h =
+    named_utf8 dir name (hash_of name) (filter_map (λ name. option_map (file_in dir name) (hash_of name)) names) d (All-head IsUtf8 name names h) (names_utf8 hash_of dir names d (All-tail IsUtf8 name names h))
 
-pub name_utf8 : (names items : List (List ℕ)) (i : ℕ) (name : List ℕ) → items ≡ names → i < length items → name ≡ get_or items i name → All IsUtf8 names → IsUtf8 name
-name_utf8 names items i name e lt is h = subst IsUtf8 (sym is) (All-get_or IsUtf8 items i name lt (subst (All IsUtf8) (sym e) h))
+found_utf8 : (hash_of : List ℕ → Option (List ℕ)) (dirs : List DirNames) → All AreTextNames dirs → All HasTextPath (found hash_of dirs)
+found_utf8 hash_of [] h = All-nil HasTextPath
+found_utf8 hash_of (d ∷ dirs) h =
+    let texts = All-head AreTextNames d dirs h in
+    All-append HasTextPath (found_in hash_of d) (found hash_of dirs) (names_utf8 hash_of d.dir d.names texts.0 texts.1) (found_utf8 hash_of dirs (All-tail AreTextNames d dirs h))
+
+firsts_utf8 : (fs : List Found) → All HasTextPath fs → All HasTextPath (firsts fs)
+firsts_utf8 [] h = h
+firsts_utf8 (f ∷ fs) h =
+    All-cons HasTextPath f (filter (λ g. not (bytes_eq g.hash f.hash)) (firsts fs)) (All-head HasTextPath f fs h)
+    (All-filter (λ g. not (bytes_eq g.hash f.hash)) HasTextPath (firsts fs) (firsts_utf8 fs (All-tail HasTextPath f fs h)))
+
+pod_utf8 : (counters : List Found) (meta : Found) → All HasTextPath counters → HasTextPath meta → HasTextPaths (pod_of counters meta)
+pod_utf8 counters meta h m =
+    (m, All-map IsUtf8 (λ (c : Found). c.path) (filter (λ c. bytes_eq c.hash meta.hash) counters) (All-filter (λ c. bytes_eq c.hash meta.hash) HasTextPath counters h))
+
+pub pods_utf8 : (dirs : List DirNames) → All AreTextNames dirs → All HasTextPaths (pods_of dirs)
+pods_utf8 dirs h =
+    All-map HasTextPaths (pod_of (found counter_hash dirs)) (firsts (found meta_hash dirs))
+    (All-weaker HasTextPath (λ m. HasTextPaths (pod_of (found counter_hash dirs) m)) (λ m t. pod_utf8 (found counter_hash dirs) m (found_utf8 counter_hash dirs h) t) (firsts (found meta_hash dirs))
+    (firsts_utf8 (found meta_hash dirs) (found_utf8 meta_hash dirs h)))

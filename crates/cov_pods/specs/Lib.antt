@@ -3,3 +3,4 @@ pub mod Faults
 pub mod Names
 pub mod Outside
 pub mod Paths
+pub mod Pods

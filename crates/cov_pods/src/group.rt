@@ -1,8 +1,10 @@
 //! Which names of directories make pods.
-ghost use Rattle.std.specs.Prelude.{◌≡◌, All, IfOk, OnOk};
-ghost use Rattle.std.specs.Str.{IsUtf8};
+ghost use Rattle.std.specs.Prelude.{◌≡◌, [], ◌∷◌, ◌++◌, List, All, IfOk, OnOk};
+ghost use Rattle.cov_bytes.specs.Intern.{index_of, with_text};
+ghost use Rattle.cov_pods.specs.Names as names;
 ghost use Rattle.cov_pods.specs.Paths as paths;
 ghost use Rattle.cov_pods.specs.Paths.{AreTextNames, HasTextPaths};
+ghost use Rattle.cov_pods.specs.Pods.{Found, file_in, found_in, found, pod_of, pods_of, HoldsMetas, HoldsCounters};
 
 use crate::names::{counter_hash, meta_hash};
 use crate::pod::{DirNames, Pod};
@@ -12,8 +14,7 @@ use std::alloc::{AllocError, Global};
 
 /// The path of a name in a directory.
 fn path_in(alloc: Global, dir: &Text, name: &Text) -> Result<Text, NoMemory>
-    ensures path { IfOk result (λ path. path ≡ paths.path_in dir.now name.now) }
-    ensures utf8 { IfOk result (λ path. IsUtf8 dir.now → IsUtf8 name.now → IsUtf8 path) }
+    ensures { IfOk result (λ path. path ≡ paths.path_in dir.now name.now) }
 {
     let mut path = Vec::from_slice(alloc, dir.bytes())?;
     path.push(b'/')?;
@@ -22,7 +23,10 @@ fn path_in(alloc: Global, dir: &Text, name: &Text) -> Result<Text, NoMemory>
 }
 
 /// The number of a hash, the next one if it is new.
-fn number_of(hashes: &mut StringTable, hash: &[u8]) -> Result<usize, NoMemory> {
+fn number_of(hashes: &mut StringTable, hash: &[u8]) -> Result<usize, NoMemory>
+    ensures index { IfOk result (λ i. i ≡ index_of hashes.old hash.now) }
+    ensures texts { OnOk result (hashes.new ≡ with_text hashes.old hash.now) }
+{
     if hashes.len() >= u32::MAX as usize {
         return Err(AllocError);
     }
@@ -30,8 +34,8 @@ fn number_of(hashes: &mut StringTable, hash: &[u8]) -> Result<usize, NoMemory> {
 }
 
 /// A pod without counter files.
-fn pod_of(alloc: Global, hash: &[u8], dir: &Text, name: &Text) -> Result<Pod, NoMemory>
-    ensures utf8 { IfOk result (λ pod. IsUtf8 dir.now → IsUtf8 name.now → HasTextPaths pod) }
+fn bare_pod(alloc: Global, hash: &[u8], dir: &Text, name: &Text) -> Result<Pod, NoMemory>
+    ensures { IfOk result (λ pod. pod ≡ pod_of [] (file_in dir.now name.now hash.now)) }
 {
     Ok(Pod {
         hash: Text::of(alloc, hash)?,
@@ -45,15 +49,14 @@ fn add_meta(
     alloc: Global,
     hashes: &mut StringTable,
     pods: &mut Vec<Pod>,
+    hash: &[u8],
     dir: &Text,
     name: &Text,
 ) -> Result<(), NoMemory>
-    ensures utf8 { OnOk result (IsUtf8 dir.now → IsUtf8 name.now → All HasTextPaths pods.old.items → All HasTextPaths pods.new.items) }
+    ensures { OnOk result ((metas : List Found) → HoldsMetas metas hashes.old pods.old.items → HoldsMetas (metas ++ file_in dir.now name.now hash.now ∷ []) hashes.new pods.new.items) }
 {
-    if let Some(hash) = meta_hash(name.bytes()) {
-        if number_of(hashes, hash)? == pods.len() {
-            pods.push(pod_of(alloc, hash, dir, name)?)?;
-        }
+    if number_of(hashes, hash)? == pods.len() {
+        pods.push(bare_pod(alloc, hash, dir, name)?)?;
     }
     Ok(())
 }
@@ -63,46 +66,51 @@ fn add_counter(
     alloc: Global,
     hashes: &mut StringTable,
     pods: &mut Vec<Pod>,
+    hash: &[u8],
     dir: &Text,
     name: &Text,
 ) -> Result<(), NoMemory>
-    ensures utf8 { OnOk result (IsUtf8 dir.now → IsUtf8 name.now → All HasTextPaths pods.old.items → All HasTextPaths pods.new.items) }
+    ensures { OnOk result ((metas counters : List Found) → HoldsCounters metas counters hashes.old pods.old.items → HoldsCounters metas (counters ++ file_in dir.now name.now hash.now ∷ []) hashes.new pods.new.items) }
 {
-    if let Some(hash) = counter_hash(name.bytes()) {
-        let number = number_of(hashes, hash)?;
-        if number < pods.len() {
-            let path = path_in(alloc, dir, name)?;
-            let pod = &mut pods[number];
-            pod.counters.push(path)?;
-        }
+    let number = number_of(hashes, hash)?;
+    if number < pods.len() {
+        let path = path_in(alloc, dir, name)?;
+        let pod = &mut pods[number];
+        pod.counters.push(path)?;
     }
     Ok(())
 }
 
+/// Adds the pods of the meta files of a directory.
 fn add_metas(
     alloc: Global,
     hashes: &mut StringTable,
     pods: &mut Vec<Pod>,
     dir: &DirNames,
 ) -> Result<(), NoMemory>
-    ensures utf8 { OnOk result (AreTextNames dir.now → All HasTextPaths pods.old.items → All HasTextPaths pods.new.items) }
+    ensures { OnOk result ((metas : List Found) → HoldsMetas metas hashes.old pods.old.items → HoldsMetas (metas ++ found_in names.meta_hash dir.now) hashes.new pods.new.items) }
 {
     for name in dir.names.as_slice() {
-        add_meta(alloc, hashes, pods, &dir.dir, name)?;
+        if let Some(hash) = meta_hash(name.bytes()) {
+            add_meta(alloc, hashes, pods, hash, &dir.dir, name)?;
+        }
     }
     Ok(())
 }
 
+/// Adds the counter files of a directory to the pods.
 fn add_counters(
     alloc: Global,
     hashes: &mut StringTable,
     pods: &mut Vec<Pod>,
     dir: &DirNames,
 ) -> Result<(), NoMemory>
-    ensures utf8 { OnOk result (AreTextNames dir.now → All HasTextPaths pods.old.items → All HasTextPaths pods.new.items) }
+    ensures { OnOk result ((metas counters : List Found) → HoldsCounters metas counters hashes.old pods.old.items → HoldsCounters metas (counters ++ found_in names.counter_hash dir.now) hashes.new pods.new.items) }
 {
     for name in dir.names.as_slice() {
-        add_counter(alloc, hashes, pods, &dir.dir, name)?;
+        if let Some(hash) = counter_hash(name.bytes()) {
+            add_counter(alloc, hashes, pods, hash, &dir.dir, name)?;
+        }
     }
     Ok(())
 }
@@ -113,7 +121,7 @@ fn metas_of(
     hashes: &mut StringTable,
     dirs: &[DirNames],
 ) -> Result<Vec<Pod>, NoMemory>
-    ensures utf8 { All AreTextNames dirs.now → IfOk result (λ pods. All HasTextPaths pods.items) }
+    ensures { IfOk result (λ pods. hashes.old ≡ [] → HoldsMetas (found names.meta_hash dirs.now) hashes.new pods.items) }
 {
     let mut pods = Vec::new(alloc);
     for dir in dirs {
@@ -126,6 +134,7 @@ fn metas_of(
 ///
 /// A pod has the first meta file found with its hash and all counter files with it. Other names are left out.
 pub fn collect(alloc: Global, dirs: &[DirNames]) -> Result<Vec<Pod>, NoMemory>
+    ensures pods { IfOk result (λ pods. pods.items ≡ pods_of dirs.now) }
     ensures utf8 { All AreTextNames dirs.now → IfOk result (λ pods. All HasTextPaths pods.items) }
 {
     let mut hashes = StringTable::new(alloc);
