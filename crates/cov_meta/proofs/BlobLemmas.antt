@@ -1,5 +1,5 @@
 -- What is pushed for a package is its blob.
-use Rattle.std.proofs.Common.{◌≡◌, ℕ, ◌+◌, ◌*◌, ◌<◌, ◌≤◌, ◌^◌, List, [], ◌∷◌, ◌++◌, length, map, flat_map, sum, refl, sym, ap, ◌∙◌, arith, append_assoc}
+use Rattle.std.proofs.Common.{◌≡◌, ℕ, ◌+◌, List, [], ◌∷◌, ◌++◌, length, map, flat_map, refl, sym, ap, ◌∙◌, append_assoc}
 use Rattle.std.specs.List.{concat}
 use Rattle.byteorder.specs.Endian.{little_bytes}
 use Rattle.cov_bytes.specs.Intern.{index_of, with_text}
@@ -9,8 +9,9 @@ use Rattle.cov_meta.specs.declared.meta.MetaFunction.{MetaFunction}
 use Rattle.cov_meta.specs.declared.meta.MetaPackage.{MetaPackage}
 use Rattle.cov_meta.specs.declared.meta.Meta.{Meta}
 use Rattle.cov_meta.specs.Hash.{blob_hash, meta_hash}
-use Rattle.cov_meta.specs.Written.{with_texts, function_texts, texts_of, record_text, records_of, records_start, offsets_from, numbers_of, blob_head, blob_text, NumbersAre, file_head, meta_text, blobs_start}
-use Rattle.cov_meta.proofs.Interning.{Has, joined, kept, still, kept_all}
+use Rattle.cov_meta.specs.Written.{with_texts, function_texts, texts_of, record_text, records_of, records_start, offsets_from, numbers_of, blob_head, blob_text, file_head, meta_text, blobs_start}
+use Rattle.cov_meta.specs.Parts.{NumbersAre}
+use Rattle.cov_meta.proofs.Interning.{Has, joined, still, kept_all}
 
 -- the texts of a package's own, then those of its functions
 pub texts_in_turn : (p : MetaPackage) → with_texts (with_texts [] (p.name ∷ p.path ∷ p.«module» ∷ [])) (flat_map function_texts p.functions) ≡ texts_of p

@@ -1,17 +1,15 @@
 -- How many bytes the parts of a file have.
-use Rattle.std.proofs.Common.{◌≡◌, ℕ, ◌+◌, ◌*◌, ◌<◌, ◌≤◌, ◌^◌, List, [], ◌∷◌, ◌++◌, length, map, flat_map, All, refl, sym, ap, ◌∙◌, arith, length-append}
+use Rattle.std.proofs.Common.{◌≡◌, ℕ, ◌+◌, ◌*◌, ◌≤◌, ◌^◌, List, [], ◌∷◌, length, map, flat_map, All, refl, ◌∙◌, arith, length-append}
 use Rattle.std.specs.List.{concat}
 use Rattle.std.proofs.lemmas.List.{length-map}
 use Rattle.std.proofs.lemmas.List.Elements.{All-head, All-tail}
 use Rattle.byteorder.specs.Endian.{little_bytes}
 use Rattle.md5.specs.Md5.{md5, digest_bytes}
-use Rattle.cov_bytes.specs.Writing.{table_text}
-use Rattle.cov_outside.specs.declared.mode.Mode.{Mode}
 use Rattle.cov_meta.specs.declared.blob.TextNumbers.{TextNumbers}
 use Rattle.cov_meta.specs.declared.meta.MetaPackage.{MetaPackage}
-use Rattle.cov_meta.specs.declared.meta.Meta.{Meta}
 use Rattle.cov_meta.specs.Hash.{blob_hash, package_message}
-use Rattle.cov_meta.specs.Written.{PackageFits, texts_of, record_text, records_of, records_start, offsets_from, numbers_of, blob_head, blob_text}
+use Rattle.cov_meta.specs.Written.{texts_of, record_text, records_of, records_start, offsets_from, numbers_of, blob_head, blob_text}
+use Rattle.cov_meta.specs.Parts.{PackageFits}
 
 digest_length : (h : List ℕ) → length (digest_bytes h 4) ≡ 16
 unfolding digest_bytes

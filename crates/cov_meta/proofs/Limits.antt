@@ -1,9 +1,8 @@
 -- What keeps the limits fits the fields.
-use Rattle.std.proofs.Common.{◌≡◌, ℕ, zero, suc, ◌+◌, ◌*◌, ◌<◌, ◌≤◌, ◌^◌, ◌/◌, List, [], ◌∷◌, ◌++◌, length, get_or, map, flat_map, sum_by, All, refl, sym, ap, ◌∙◌, arith, length-append}
+use Rattle.std.proofs.Common.{◌≡◌, ℕ, zero, suc, ◌+◌, ◌*◌, ◌<◌, ◌≤◌, ◌^◌, ◌/◌, List, [], ◌∷◌, ◌++◌, length, get_or, map, flat_map, sum_by, All, refl, arith, length-append}
 use Rattle.std.specs.List.{concat}
 use Rattle.std.proofs.lemmas.List.Sums.{sum_by-cons}
 use Rattle.cov_bytes.specs.Writing.{uleb_of, groups_of, texts_text, table_text}
-use Rattle.std.specs.Prelude.{nat_lt}
 use Rattle.std.proofs.lemmas.Bool.Decides.{nat_tests}
 use Rattle.cov_meta.specs.declared.meta.MetaUnit.{MetaUnit}
 use Rattle.cov_meta.specs.declared.meta.MetaFunction.{MetaFunction}
@@ -12,7 +11,8 @@ use Rattle.cov_meta.specs.declared.meta.Meta.{Meta}
 use Rattle.cov_meta.specs.Spelling.{unit_numbers}
 use Rattle.cov_bytes.specs.Intern.{index_of}
 use Rattle.cov_meta.specs.Hash.{flag_number}
-use Rattle.cov_meta.specs.Written.{KeepsLimits, PackageFits, texts_of, record_numbers, record_text, records_of, records_start}
+use Rattle.cov_meta.specs.Written.{KeepsLimits, texts_of, record_numbers, record_text, records_of, records_start}
+use Rattle.cov_meta.specs.Parts.{PackageFits}
 
 groups_short : (k n : ℕ) → length (groups_of k n) ≤ suc k
 unfolding groups_of

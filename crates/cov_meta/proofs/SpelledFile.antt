@@ -54,7 +54,7 @@ file_spells bytes file e =
     subst (λ (y : MetaFile). Spells bytes y) (ap made list_is ∙ same_ok _ _ packages.2)
     (record {
       blobs = p.blobs;
-      lengths = places.0.1;
+      lengths_at = places.0.1;
       behind = entries.0.1;
       small = ltb-false 268435456 (length bytes) test.0;
       whole_header = head.whole;
@@ -84,14 +84,14 @@ unfolding meta_of file_at entries_at packages_at
 file_reads bytes file s =
     let h : Header = record { entries = length file.meta.packages; hash = file.hash; mode = file.meta.mode } in
     let head : Head bytes h = record { whole = s.whole_header; magic = s.magic; version = s.version; count = s.count_stands; few = s.limits.few_packages; hash = s.hash_stands; hash_whole = s.hash_whole; mode = s.mode_stands; granularity = s.granularity } in
-    let o = places_of 8 bytes 56 (map (λ b. b.offset) s.blobs) s.lengths s.offsets_stand in
-    let read = offsets_read Eight bytes 56 o.0 s.lengths o.1 in
+    let o = places_of 8 bytes 56 (map (λ b. b.offset) s.blobs) s.lengths_at s.offsets_stand in
+    let read = offsets_read Eight bytes 56 o.0 s.lengths_at o.1 in
     let e = entries_of o.0 s.blobs o.2 in
     let as_many : length o.0 ≡ length file.meta.packages =
     sym (length-map o.0 (λ q. q.offset)) ∙ ap length o.2 ∙ length-map s.blobs (λ b. b.offset) ∙ zipped_length (IsBlob bytes) s.blobs file.meta.packages s.packages_are in
-    let places : many (offset_at Eight bytes) (length file.meta.packages) 56 ≡ Ok (o.0, s.lengths) = subst (λ (n : ℕ). many (offset_at Eight bytes) n 56 ≡ Ok (o.0, s.lengths)) as_many read in
-    let lengths_stand = subst (λ (xs : List ℕ). InTurn (IsFixed 8 bytes) s.lengths xs s.behind) (sym e.lengths_are) s.lengths_stand in
-    let lengths : each (length_at bytes) o.0 s.lengths ≡ Ok (e.entries, s.behind) = subst (λ (qs : List OffsetField). each (length_at bytes) qs s.lengths ≡ Ok (e.entries, s.behind)) e.places_are (lengths_read bytes e.entries s.lengths s.behind lengths_stand) in
+    let places : many (offset_at Eight bytes) (length file.meta.packages) 56 ≡ Ok (o.0, s.lengths_at) = subst (λ (n : ℕ). many (offset_at Eight bytes) n 56 ≡ Ok (o.0, s.lengths_at)) as_many read in
+    let lengths_stand = subst (λ (xs : List ℕ). InTurn (IsFixed 8 bytes) s.lengths_at xs s.behind) (sym e.lengths_are) s.lengths_stand in
+    let lengths : each (length_at bytes) o.0 s.lengths_at ≡ Ok (e.entries, s.behind) = subst (λ (qs : List OffsetField). each (length_at bytes) qs s.lengths_at ≡ Ok (e.entries, s.behind)) e.places_are (lengths_read bytes e.entries s.lengths_at s.behind lengths_stand) in
     let fit : AllFit whole_allowance s.blobs file.meta.packages = record { functions = s.limits.few_functions; strings = s.limits.few_texts; short = s.limits.short_texts; bytes = s.limits.few_text_bytes; units = s.limits.few_units } in
     let p = packages_read bytes e.entries whole_allowance s.blobs file.meta.packages e.said s.packages_are fit in
     rw (le-ltb 268435456 (length bytes) s.small, header_reads bytes h head, places, lengths, p.1) refl

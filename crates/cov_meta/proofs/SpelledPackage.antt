@@ -92,20 +92,14 @@ blob_spells bytes start left p after e =
     (record {
       texts = texts.0.0;
       spelled = record {
-        name_number = numbers.0.0.name;
-        path_number = numbers.0.0.path;
-        module_number = numbers.0.0.«module»;
         offsets = map (λ q. q.offset) places.0.0;
         table = places.0.1;
-        name_stands = n.name;
-        path_stands = n.path;
-        module_stands = n.module_path;
-        count_stands = count_number;
+        name_is = record { number = numbers.0.0.name; number_stands = moved 4 bytes (start + 4) numbers.0.0.name (start + 8) (start + 4) ((start + 4) + 4) refl (omega arith) n.name; text_is = m.name };
+        path_is = record { number = numbers.0.0.path; number_stands = moved 4 bytes (start + 8) numbers.0.0.path (start + 12) (start + 8) ((start + 8) + 4) refl (omega arith) n.path; text_is = m.path };
+        module_is = record { number = numbers.0.0.«module»; number_stands = moved 4 bytes (start + 12) numbers.0.0.«module» (start + 16) (start + 12) ((start + 12) + 4) refl (omega arith) n.module_path; text_is = m.module_path };
+        count_stands = moved 4 bytes (start + 40) (length functions.0.0) (start + 44) (start + 40) ((start + 40) + 4) refl (omega arith) count_number;
         offsets_stand = offsets;
         texts_stand = t.0;
-        name_is = m.name;
-        path_is = m.path;
-        module_is = m.module_path;
         functions_are = f.0;
       };
       fits = record { functions = rw (← counted) c.2; strings = t.1; short = t.2; bytes = t.3; units = f.2 };
@@ -123,11 +117,16 @@ pub blob_reads : (bytes : List ℕ) (start : ℕ) (left : Allowance) (texts : Li
     → blob_at bytes start left ≡ Ok (p, left_of left texts p)
 unfolding blob_at texts_at
 blob_reads bytes start left texts p s fits =
-    let numbers : TextNumbers = record { name = s.name_number; path = s.path_number; «module» = s.module_number } in
-    let n : Numbers bytes start numbers (start + 16) = record { name = s.name_stands; path = s.path_stands; module_path = s.module_stands; next_is = refl } in
+    let numbers : TextNumbers = record { name = s.name_is.number; path = s.path_is.number; «module» = s.module_is.number } in
+    let n : Numbers bytes start numbers (start + 16) = record {
+      name = moved 4 bytes (start + 4) s.name_is.number ((start + 4) + 4) (start + 4) (start + 8) refl (omega arith) s.name_is.number_stands;
+      path = moved 4 bytes (start + 8) s.path_is.number ((start + 8) + 4) (start + 8) (start + 12) refl (omega arith) s.path_is.number_stands;
+      module_path = moved 4 bytes (start + 12) s.module_is.number ((start + 12) + 4) (start + 12) (start + 16) refl (omega arith) s.module_is.number_stands;
+      next_is = refl;
+    } in
     let count_start : start + 40 ≡ (start + 16) + 24 = omega arith in
     let count_end : start + 44 ≡ (start + 16) + 28 = omega arith in
-    let c = moved 4 bytes (start + 40) (length p.functions) (start + 44) ((start + 16) + 24) ((start + 16) + 28) count_start count_end s.count_stands in
+    let c = moved 4 bytes (start + 40) (length p.functions) ((start + 40) + 4) ((start + 16) + 24) ((start + 16) + 28) count_start (omega arith) s.count_stands in
     let o = places_of 4 bytes (start + 44) s.offsets s.table s.offsets_stand in
     let turns = subst (λ (k : ℕ). InTurn (IsOffset 4 bytes) k o.0 s.table) count_end o.1 in
     let many_places = offsets_read Four bytes ((start + 16) + 28) o.0 s.table turns in
@@ -135,5 +134,5 @@ blob_reads bytes start left texts p s fits =
     let counted : many (offset_at Four bytes) (length p.functions) ((start + 16) + 28) ≡ Ok (o.0, s.table) = subst (λ (k : ℕ). many (offset_at Four bytes) k ((start + 16) + 28) ≡ Ok (o.0, s.table)) as_many many_places in
     let stand = subst (λ (xs : List ℕ). AllZip (StandsFrom texts bytes start) xs p.functions) (sym o.2) s.functions_are in
     let names : PackageNames = record { name = p.name; path = p.path; «module» = p.«module» } in
-    let m : Named texts numbers names = record { name = s.name_is; path = s.path_is; module_path = s.module_is } in
+    let m : Named texts numbers names = record { name = s.name_is.text_is; path = s.path_is.text_is; module_path = s.module_is.text_is } in
     rw (numbers_read bytes start numbers n, count_reads left.functions bytes (start + 16) (length p.functions) c fits.functions, counted, table_reads (text_limits left) bytes s.table texts s.texts_stand fits.strings fits.short fits.bytes, names_read texts start numbers names m, functions_read texts bytes start o.0 left.units p.functions stand fits.units) refl

@@ -1,10 +1,10 @@
 -- What was written stands in the bytes.
-use Rattle.std.proofs.Common.{◌≡◌, ℕ, zero, suc, ◌+◌, ◌*◌, ◌<◌, ◌≤◌, ◌^◌, List, [], ◌∷◌, ◌++◌, length, take, drop, map, flat_map, All, refl, sym, ap, subst, ◌∙◌, arith, append_assoc, length-append, length-drop}
+use Rattle.std.proofs.Common.{◌≡◌, ℕ, ◌+◌, ◌*◌, ◌<◌, ◌^◌, List, [], ◌∷◌, ◌++◌, length, take, drop, flat_map, All, refl, sym, ap, subst, ◌∙◌, arith, append_assoc, length-append}
 use Rattle.std.proofs.lemmas.List.{drop-drop}
 use Rattle.std.proofs.lemmas.List.Elements.{All-head, All-tail}
 use Rattle.std.proofs.Math.Seq.{take-append_seam, drop-append_seam}
 use Rattle.byteorder.specs.Endian.{little_bytes}
-use Rattle.cov_bytes.specs.Writing.{uleb_of, table_text}
+use Rattle.cov_bytes.specs.Writing.{uleb_of}
 use Rattle.cov_bytes.specs.Laws.{NumbersAreRead, WrittenIsShortest, FixedAreRead, TablesAreRead}
 use Rattle.cov_meta.specs.Spelling.{Holds, IsFixed, IsUleb, InTurn}
 use Rattle.cov_meta.proofs.SpelledNumbers.{fixed_spells, uleb_spells}

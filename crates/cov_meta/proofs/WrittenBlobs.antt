@@ -1,26 +1,24 @@
 -- The blobs that are written spell the packages.
-use Rattle.std.proofs.Common.{◌≡◌, ℕ, zero, suc, ◌+◌, ◌*◌, ◌<◌, ◌≤◌, ◌^◌, List, [], ◌∷◌, ◌++◌, length, take, drop, map, flat_map, sum_by, sum, replicate, All, Some, Ok, refl, sym, ap, subst, ◌∙◌, arith, append_assoc, length-append, length-drop}
-use Rattle.std.specs.Prelude.{slice_get}
-use Rattle.std.specs.List.{concat, AllZip}
+use Rattle.std.proofs.Common.{◌≡◌, ℕ, ◌+◌, ◌*◌, ◌<◌, ◌≤◌, ◌^◌, List, [], ◌∷◌, ◌++◌, length, drop, map, flat_map, sum_by, sum, replicate, All, refl, sym, ap, ◌∙◌, arith, append_assoc}
+use Rattle.std.specs.List.{concat}
 use Rattle.std.proofs.lemmas.List.{length-map}
 use Rattle.std.proofs.lemmas.List.Sums.{sum_by-cons}
-use Rattle.std.proofs.lemmas.List.Elements.{All-head, All-tail, All-weaker, All-nil, All-cons}
+use Rattle.std.proofs.lemmas.List.Elements.{All-weaker, All-nil, All-cons}
 use Rattle.byteorder.specs.Endian.{little_bytes}
 use Rattle.cov_bytes.specs.Intern.{index_of, with_text}
-use Rattle.cov_bytes.specs.Writing.{uleb_of, table_text}
-use Rattle.cov_bytes.specs.Laws as base
+use Rattle.cov_bytes.specs.Writing.{table_text}
 use Rattle.cov_bytes.specs.declared.text_limits.TextLimits.{TextLimits}
-use Rattle.cov_meta.specs.declared.meta.MetaFunction.{MetaFunction}
 use Rattle.cov_meta.specs.declared.meta.MetaPackage.{MetaPackage}
 use Rattle.cov_meta.specs.Hash.{blob_hash, package_message}
-use Rattle.cov_meta.specs.Spelling.{IsFixed, IsTable, IsFunction, IsPackage, InTurn}
-use Rattle.cov_meta.specs.Written.{with_texts, function_texts, texts_of, record_text, records_of, records_start, offsets_from, numbers_of, blob_head, blob_text, PackageFits}
+use Rattle.cov_meta.specs.Spelling.{IsNamed, IsTable, IsPackage}
+use Rattle.cov_meta.specs.Written.{function_texts, texts_of, record_text, records_of, records_start, offsets_from, blob_head, blob_text, UnitsFit}
+use Rattle.cov_meta.specs.Parts.{PackageFits}
 use Rattle.cov_meta.proofs.Interning.{Has, HasBoth, joined, still, kept_all, functions_have, text_at_index}
 use Rattle.cov_meta.proofs.Pieces.{sum_lengths}
 use Rattle.cov_meta.proofs.Lengths.{length-md5, length-offsets, length-fours}
 use Rattle.cov_meta.proofs.SpelledTexts.{table_spells}
-use Rattle.cov_meta.proofs.Stands.{BaseLaws, behind, holds, four, fours}
-use Rattle.cov_meta.proofs.WrittenFunctions.{UnitsFit, functions_stand}
+use Rattle.cov_meta.proofs.Stands.{BaseLaws, behind, four, fours}
+use Rattle.cov_meta.proofs.WrittenFunctions.{functions_stand}
 
 -- a table that is written stands as one
 table_stands : BaseLaws → (bytes rest : List ℕ) (at : ℕ) (texts : List (List ℕ)) → length texts < 2 ^ 32 → All (λ t. length t < 2 ^ 32) texts → drop at bytes ≡ table_text texts ++ rest → IsTable bytes at texts
@@ -56,6 +54,14 @@ function_texts_there p = functions_have (with_text (with_text (with_text [] p.na
 
 regroup : (a b c d e f g h i j k rest : List ℕ) → ((((((((((a ++ b) ++ c) ++ d) ++ e) ++ f) ++ g) ++ h) ++ i) ++ j) ++ k) ++ rest ≡ a ++ (b ++ (c ++ (d ++ (e ++ (f ++ (g ++ (h ++ (i ++ (j ++ (k ++ rest))))))))))
 regroup a b c d e f g h i j k rest = simp append_assoc
+
+-- the number of a text stands there
+named_stands : BaseLaws → (texts : List (List ℕ)) (bytes : List ℕ) → length texts < 2 ^ 32 → (at : ℕ) (rest text : List ℕ) → Has texts text → drop at bytes ≡ little_bytes 4 (index_of texts text) ++ rest → IsNamed texts bytes at text
+named_stands laws texts bytes few at rest text has here = record {
+  number = index_of texts text;
+  number_stands = four laws bytes rest at (index_of texts text) (at + 4) refl (omega arith) here;
+  text_is = text_at_index texts text has;
+}
 
 -- the parts of a blob, one behind the other
 record BlobStands (bytes rest : List ℕ) (start : ℕ) (p : MetaPackage) : Type 0 where
@@ -102,20 +108,14 @@ package_stands laws bytes rest start p fits fit here =
     let short = All-weaker (λ t. length t ≤ 2048) (λ t. length t < 2 ^ 32) (λ t h. omega arith) (texts_of p) fits.short in
     let few : length (texts_of p) < 2 ^ 32 = omega (arith, fits.texts) in
     record {
-      name_number = index_of (texts_of p) p.name;
-      path_number = index_of (texts_of p) p.path;
-      module_number = index_of (texts_of p) p.«module»;
       offsets = offsets_from (records_start p) (map length (records_of p));
       table = start + (44 + 4 * length p.functions);
-      name_stands = four laws bytes (drop (start + 8) bytes) (start + 4) (index_of (texts_of p) p.name) (start + 8) (omega arith) (omega (arith, own.0, few)) s.name;
-      path_stands = four laws bytes (drop (start + 12) bytes) (start + 8) (index_of (texts_of p) p.path) (start + 12) (omega arith) (omega (arith, own.1, few)) s.path;
-      module_stands = four laws bytes (drop (start + 16) bytes) (start + 12) (index_of (texts_of p) p.«module») (start + 16) (omega arith) (omega (arith, own.2, few)) s.unit;
-      count_stands = four laws bytes (drop (start + 44) bytes) (start + 40) (length p.functions) (start + 44) (omega arith) (omega (arith, fits.functions)) s.count;
+      name_is = named_stands laws (texts_of p) bytes few (start + 4) (drop (start + 8) bytes) p.name own.0 s.name;
+      path_is = named_stands laws (texts_of p) bytes few (start + 8) (drop (start + 12) bytes) p.path own.1 s.path;
+      module_is = named_stands laws (texts_of p) bytes few (start + 12) (drop (start + 16) bytes) p.«module» own.2 s.unit;
+      count_stands = four laws bytes (drop (start + 44) bytes) (start + 40) (length p.functions) (start + 40 + 4) refl (omega (arith, fits.functions)) s.count;
       offsets_stand = fours laws bytes (offsets_from (records_start p) (map length (records_of p))) (drop (start + (44 + 4 * length p.functions)) bytes) (start + 44) (start + (44 + 4 * length p.functions))
           (offsets_small (records_start p) (2 ^ 32) (map length (records_of p)) total) (omega (arith, length-offsets (records_start p) (map length (records_of p)), length-records p)) s.offsets;
       texts_stand = table_stands laws bytes (drop (start + records_start p) bytes) (start + (44 + 4 * length p.functions)) (texts_of p) few short s.table;
-      name_is = text_at_index (texts_of p) p.name own.0;
-      path_is = text_at_index (texts_of p) p.path own.1;
-      module_is = text_at_index (texts_of p) p.«module» own.2;
       functions_are = functions_stand laws (texts_of p) bytes rest start (records_start p) p.functions few fits.units fit (function_texts_there p) s.records;
     }

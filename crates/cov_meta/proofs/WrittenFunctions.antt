@@ -1,21 +1,16 @@
 -- The records that are written spell the functions.
-use Rattle.std.proofs.Common.{◌≡◌, ℕ, zero, suc, ◌+◌, ◌*◌, ◌<◌, ◌≤◌, ◌^◌, Bool, true, false, not, List, [], ◌∷◌, ◌++◌, length, take, drop, map, flat_map, sum_by, All, Some, refl, sym, ap, subst, ◌∙◌, arith, append_assoc, length-append}
-use Rattle.std.specs.Prelude.{◌==◌, slice_get}
+use Rattle.std.proofs.Common.{◌≡◌, ℕ, ◌+◌, ◌<◌, ◌≤◌, ◌^◌, Bool, true, false, not, List, [], ◌∷◌, ◌++◌, length, drop, map, flat_map, All, refl, ◌∙◌, arith, append_assoc}
+use Rattle.std.specs.Prelude.{◌==◌}
 use Rattle.std.specs.List.{concat, AllZip}
 use Rattle.std.proofs.lemmas.List.Elements.{All-head, All-tail, All-append, All-cons, All-nil}
 use Rattle.cov_bytes.specs.Intern.{index_of}
 use Rattle.cov_bytes.specs.Writing.{uleb_of}
-use Rattle.cov_meta.specs.declared.meta.MetaUnit.{MetaUnit}
 use Rattle.cov_meta.specs.declared.meta.MetaFunction.{MetaFunction}
 use Rattle.cov_meta.specs.Hash.{flag_number}
 use Rattle.cov_meta.specs.Spelling.{unit_numbers, IsFunction}
-use Rattle.cov_meta.specs.Written.{record_numbers, record_text, offsets_from}
-use Rattle.cov_meta.proofs.Interning.{Has, HasBoth, text_at_index}
+use Rattle.cov_meta.specs.Written.{UnitsFit, record_numbers, record_text, offsets_from}
+use Rattle.cov_meta.proofs.Interning.{HasBoth, text_at_index}
 use Rattle.cov_meta.proofs.Stands.{BaseLaws, behind, ulebs}
-
--- the numbers of a function fit 32 bits
-abbrev pub UnitsFit : MetaFunction → Type 0
-UnitsFit f = All (λ n. n < 2 ^ 32) (flat_map unit_numbers f.units)
 
 flag_small : (b : Bool) → flag_number b < 2 ^ 32
 flag_small true = omega arith

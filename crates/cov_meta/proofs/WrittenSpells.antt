@@ -1,5 +1,5 @@
 -- What is written spells the value.
-use Rattle.std.proofs.Common.{◌≡◌, ℕ, zero, suc, ◌+◌, ◌*◌, ◌-◌, ◌<◌, ◌≤◌, ◌^◌, List, [], ◌∷◌, ◌++◌, length, take, drop, map, flat_map, sum_by, sum, replicate, codes, All, refl, sym, ap, subst, ◌∙◌, arith, append_assoc, length-append, length-drop}
+use Rattle.std.proofs.Common.{◌≡◌, ℕ, ◌+◌, ◌*◌, ◌<◌, ◌≤◌, ◌^◌, List, [], ◌∷◌, ◌++◌, length, take, drop, map, flat_map, sum_by, sum, replicate, codes, All, refl, sym, ap, subst, ◌∙◌, arith, append_assoc, length-append, length-drop}
 use Rattle.std.specs.List.{concat, AllZip}
 use Rattle.std.proofs.lemmas.List.{length-map, append-nil, drop-take}
 use Rattle.std.proofs.lemmas.List.Sums.{sum_by-cons}
@@ -10,13 +10,13 @@ use Rattle.cov_bytes.specs.Writing.{table_text, uleb_of, groups_of}
 use Rattle.cov_meta.specs.declared.meta.MetaPackage.{MetaPackage}
 use Rattle.cov_meta.specs.declared.meta.Meta.{Meta}
 use Rattle.cov_meta.specs.Hash.{blob_hash, mode_name, meta_hash}
-use Rattle.cov_meta.specs.Spelling.{IsBlob, IsFixed, InTurn, Blob, mode_number}
-use Rattle.cov_meta.specs.Written.{KeepsLimits, NumbersFit, PackageFits, WrittenIsSpelled, texts_of, records_of, records_start, blob_text, blobs_start, offsets_from, file_head, meta_text}
+use Rattle.cov_meta.specs.Spelling.{Spells, IsBlob, IsFixed, InTurn, Blob, mode_number}
+use Rattle.cov_meta.specs.Written.{KeepsLimits, NumbersFit, UnitsFit, texts_of, blob_text, blobs_start, offsets_from, file_head, meta_text}
+use Rattle.cov_meta.specs.Parts.{PackageFits}
 use Rattle.cov_meta.proofs.Lengths.{length-md5, length-blob, length-offsets, length-eights}
 use Rattle.cov_meta.proofs.Limits.{packages_fit}
 use Rattle.cov_meta.proofs.Pieces.{sum_lengths}
 use Rattle.cov_meta.proofs.Stands.{BaseLaws, behind, holds, four, eight, eights}
-use Rattle.cov_meta.proofs.WrittenFunctions.{UnitsFit}
 use Rattle.cov_meta.proofs.WrittenBlobs.{piece, offsets_small, package_stands}
 
 -- ---- blobs one after the other
@@ -121,7 +121,7 @@ file_stands bytes meta same =
     record { magic = p0.0; version = p4.0; count = p16.0; hash = p24.0; mode = p48.0; unused = p50.0; offsets = p56.0; sizes = sizes.0; blobs = table.1 }
 
 -- the fields of the head, the lists of offsets and sizes, and the blobs
-pub written_is_spelled : BaseLaws → WrittenIsSpelled
+pub written_is_spelled : BaseLaws → (meta : Meta) → KeepsLimits meta → NumbersFit meta → length (meta_text meta) ≤ 268435456 → Spells (meta_text meta) (record { hash = meta_hash meta; meta = meta })
 written_is_spelled laws meta keeps fit small =
     let bytes = meta_text meta in
     let s = file_stands (meta_text meta) meta refl in
@@ -136,7 +136,7 @@ written_is_spelled laws meta keeps fit small =
     let one : drop 49 (meta_text meta) ≡ 1 ∷ drop 50 (meta_text meta) = behind (meta_text meta) (mode_number meta.mode ∷ []) (1 ∷ drop 50 (meta_text meta)) 48 49 refl s.mode in
     record {
       blobs = blobs_of (blobs_start meta) meta.packages;
-      lengths = 56 + 8 * length meta.packages;
+      lengths_at = 56 + 8 * length meta.packages;
       behind = 56 + 16 * length meta.packages;
       small = small;
       whole_header = omega (arith, ap length s.unused, length-drop 50 (meta_text meta), length-append (replicate 6 0) (drop 56 (meta_text meta)));

@@ -8,3 +8,4 @@ pub mod File
 pub mod Spelling
 pub mod Hash
 pub mod Written
+pub mod Parts

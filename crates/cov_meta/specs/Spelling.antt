@@ -23,6 +23,10 @@ pub record IsFixed (width : ℕ) (bytes : List ℕ) (at value next : ℕ) : Type
   pub whole : next ≤ length bytes
   pub value_is : little_number width (drop at bytes) ≡ value
 
+-- the same where what follows doesn't matter
+abbrev pub IsField : ℕ → List ℕ → ℕ → ℕ → Type 0
+IsField width bytes at value = IsFixed width bytes at value (at + width)
+
 -- a ULEB128 number (DWARF 4, section 7.6) below 2^32 of at most ten bytes: groups of seven bits,
 -- the lowest first, where all bytes but the last have the high bit
 pub record IsUleb (bytes : List ℕ) (at value next : ℕ) : Type 0 where
@@ -73,24 +77,24 @@ pub record IsFunction (texts : List (List ℕ)) (bytes : List ℕ) (at : ℕ) (f
   pub file_is : slice_get texts file_number ≡ Some f.file
   pub literal_is : f.literal ≡ not (flag == 0)
 
--- a blob from start up to the end of the bytes: the numbers of the package's name, path and module
--- path in the string table, the number of functions, where their records stand from start on, the
--- string table with these texts, and the records
+-- the text whose number in the string table, of four bytes, stands there
+pub record IsNamed (texts : List (List ℕ)) (bytes : List ℕ) (at : ℕ) (text : List ℕ) : Type 0 where
+  pub number : ℕ
+  pub number_stands : IsField 4 bytes at number
+  pub text_is : slice_get texts number ≡ Some text
+
+-- a blob from start up to the end of the bytes: the package's name, path and module path, the number
+-- of functions, where their records stand from start on, the string table with these texts, and the
+-- records
 pub record IsPackage (texts : List (List ℕ)) (bytes : List ℕ) (start : ℕ) (p : MetaPackage) : Type 0 where
-  pub name_number : ℕ
-  pub path_number : ℕ
-  pub module_number : ℕ
   pub offsets : List ℕ
   pub table : ℕ
-  pub name_stands : IsFixed 4 bytes (start + 4) name_number (start + 8)
-  pub path_stands : IsFixed 4 bytes (start + 8) path_number (start + 12)
-  pub module_stands : IsFixed 4 bytes (start + 12) module_number (start + 16)
-  pub count_stands : IsFixed 4 bytes (start + 40) (length p.functions) (start + 44)
+  pub name_is : IsNamed texts bytes (start + 4) p.name
+  pub path_is : IsNamed texts bytes (start + 8) p.path
+  pub module_is : IsNamed texts bytes (start + 12) p.«module»
+  pub count_stands : IsField 4 bytes (start + 40) (length p.functions)
   pub offsets_stand : InTurn (IsFixed 4 bytes) (start + 44) offsets table
   pub texts_stand : IsTable bytes table texts
-  pub name_is : slice_get texts name_number ≡ Some p.name
-  pub path_is : slice_get texts path_number ≡ Some p.path
-  pub module_is : slice_get texts module_number ≡ Some p.«module»
   pub functions_are : AllZip (λ offset f. IsFunction texts bytes (start + offset) f) offsets p.functions
 
 -- ---- the file
@@ -125,18 +129,18 @@ mode_number Atomic = 3
 -- 00 63 76 6d
 pub record Spells (bytes : List ℕ) (file : MetaFile) : Type 0 where
   pub blobs : List Blob
-  pub lengths : ℕ
+  pub lengths_at : ℕ
   pub behind : ℕ
   pub small : length bytes ≤ 268435456
   pub whole_header : 56 ≤ length bytes
-  pub magic : IsFixed 4 bytes 0 0x6d766300 4
-  pub version : IsFixed 4 bytes 4 1 8
-  pub count_stands : IsFixed 8 bytes 16 (length file.meta.packages) 24
+  pub magic : IsField 4 bytes 0 0x6d766300
+  pub version : IsField 4 bytes 4 1
+  pub count_stands : IsField 8 bytes 16 (length file.meta.packages)
   pub hash_stands : Holds bytes 24 file.hash
   pub hash_whole : length file.hash ≡ 16
   pub mode_stands : Holds bytes 48 (mode_number file.meta.mode ∷ [])
   pub granularity : Holds bytes 49 (1 ∷ [])
-  pub offsets_stand : InTurn (IsFixed 8 bytes) 56 (map (λ b. b.offset) blobs) lengths
-  pub lengths_stand : InTurn (IsFixed 8 bytes) lengths (map (λ b. b.size) blobs) behind
+  pub offsets_stand : InTurn (IsFixed 8 bytes) 56 (map (λ b. b.offset) blobs) lengths_at
+  pub lengths_stand : InTurn (IsFixed 8 bytes) lengths_at (map (λ b. b.size) blobs) behind
   pub packages_are : AllZip (IsBlob bytes) blobs file.meta.packages
   pub limits : KeepsLimits blobs file.meta.packages

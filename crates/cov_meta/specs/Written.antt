@@ -1,17 +1,16 @@
 -- The one spelling of a meta file that is written.
 -- The layout is that of internal/coverage/defs.go in Go 1.20.
-use Rattle.std.specs.Prelude.{◌≡◌, ℕ, ◌+◌, ◌*◌, ◌^◌, ◌<◌, ◌≤◌, List, [], ◌∷◌, ◌++◌, length, map, flat_map, fold, sum_by, replicate, All}
+use Rattle.std.specs.Prelude.{ℕ, ◌+◌, ◌*◌, ◌^◌, ◌<◌, ◌≤◌, List, [], ◌∷◌, ◌++◌, length, map, flat_map, fold, sum_by, replicate, All}
 use Rattle.std.specs.List.{concat}
 use Rattle.byteorder.specs.Endian.{little_bytes}
 use Rattle.cov_bytes.specs.Intern.{index_of, with_text}
 use Rattle.cov_bytes.specs.Writing.{uleb_of, table_text}
 use Rattle.cov_outside.specs.declared.mode.Mode.{Mode}
 use Rattle.cov_meta.specs.declared.blob.TextNumbers.{TextNumbers}
-use Rattle.cov_meta.specs.declared.written_blob.BlobParts.{BlobParts}
 use Rattle.cov_meta.specs.declared.meta.MetaFunction.{MetaFunction}
 use Rattle.cov_meta.specs.declared.meta.MetaPackage.{MetaPackage}
 use Rattle.cov_meta.specs.declared.meta.Meta.{Meta}
-use Rattle.cov_meta.specs.Spelling.{unit_numbers, mode_number, Spells}
+use Rattle.cov_meta.specs.Spelling.{unit_numbers, mode_number}
 use Rattle.cov_meta.specs.Hash.{flag_number, blob_hash, meta_hash}
 
 -- ---- texts
@@ -96,34 +95,10 @@ pub record KeepsLimits (meta : Meta) : Type 0 where
   pub few_text_bytes : sum_by (λ p. sum_by length (texts_of p)) meta.packages ≤ 268435456
   pub short_texts : All (λ p. All (λ t. length t ≤ 2048) (texts_of p)) meta.packages
 
--- a package whose blob's numbers fit their fields
-pub record PackageFits (p : MetaPackage) : Type 0 where
-  pub functions : length p.functions ≤ 1048576
-  pub units : All (λ f. length f.units ≤ 1048576) p.functions
-  pub texts : length (texts_of p) ≤ 1048576
-  pub short : All (λ t. length t ≤ 2048) (texts_of p)
-  pub small : records_start p + length (concat (records_of p)) < 2 ^ 32
+-- the numbers of a function's units fit 32 bits
+abbrev pub UnitsFit : MetaFunction → Type 0
+UnitsFit f = All (λ n. n < 2 ^ 32) (flat_map unit_numbers f.units)
 
--- these are the numbers of a package's own texts
-pub record NumbersAre (texts : List (List ℕ)) (numbers : TextNumbers) (p : MetaPackage) : Type 0 where
-  pub name : numbers.name ≡ index_of texts p.name
-  pub path : numbers.path ≡ index_of texts p.path
-  pub unit : numbers.«module» ≡ index_of texts p.«module»
-
--- these are what stands in a package's blob
-pub record PartsAre (parts : BlobParts) (p : MetaPackage) : Type 0 where
-  pub numbers : parts.numbers ≡ numbers_of p
-  pub count : parts.count ≡ length (texts_of p)
-  pub table : parts.table.items ≡ table_text (texts_of p)
-  pub records : parts.records.bytes ≡ concat (records_of p)
-  pub lengths : parts.records.lengths.items ≡ map length (records_of p)
-
--- ---- the law
-
--- the numbers of all units fit 32 bits, as a value's by their type do
+-- the numbers of all units fit 32 bits, as those of a value do by their type
 abbrev pub NumbersFit : Meta → Type 0
-NumbersFit meta = All (λ p. All (λ f. All (λ n. n < 2 ^ 32) (flat_map unit_numbers f.units)) p.functions) meta.packages
-
--- what is written spells the value, where it keeps the limit on a file's bytes
-abbrev pub WrittenIsSpelled : Type 0
-WrittenIsSpelled = (meta : Meta) → KeepsLimits meta → NumbersFit meta → length (meta_text meta) ≤ 268435456 → Spells (meta_text meta) (record { hash = meta_hash meta; meta = meta })
+NumbersFit meta = All (λ p. All UnitsFit p.functions) meta.packages

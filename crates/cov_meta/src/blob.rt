@@ -3,7 +3,7 @@ ghost use Rattle.std.specs.Prelude.{◌≡◌, ◌≤◌, ◌-◌, ◌<◌, ◌^
 ghost use Rattle.cov_meta.specs.Fault.{Reads, Answers};
 ghost use Rattle.cov_meta.specs.Blob.{numbers_at, functions_count_at, texts_at, names_of, left_behind, blob_at};
 
-use crate::allowance::Allowance;
+use crate::allowance::{Allowance, MAX_TEXT_BYTES};
 use crate::entries::{Width, read_offsets};
 use crate::fault::MetaFault;
 use crate::function::{read_functions, text_of};
@@ -64,7 +64,7 @@ fn read_texts(
 {
     let limits = TextLimits {
         strings: left.strings,
-        one: 2048,
+        one: MAX_TEXT_BYTES,
         all: left.string_bytes,
     };
     Ok(StringTable::read(alloc, cursor, &limits)?)

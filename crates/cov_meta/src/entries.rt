@@ -1,5 +1,4 @@
 //! Where the package blobs stand.
-ghost use Rattle.std.specs.Prelude.{◌≡◌};
 ghost use Rattle.cov_bytes.specs.Many.{many};
 ghost use Rattle.cov_meta.specs.Fault.{Reads};
 ghost use Rattle.cov_meta.specs.Each.{each};

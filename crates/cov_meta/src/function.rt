@@ -1,8 +1,7 @@
 //! The record of a function.
-ghost use Rattle.std.specs.Prelude.{◌≡◌, ◌≤◌, ◌+◌, ◌<◌, ◌^◌, length, slice_get};
+ghost use Rattle.std.specs.Prelude.{◌≤◌, ◌+◌, ◌<◌, ◌^◌, length, slice_get};
 ghost use Rattle.cov_bytes.specs.Many.{many};
 ghost use Rattle.cov_meta.specs.Fault.{Reads, Answers};
-ghost use Rattle.cov_meta.specs.Each.{each};
 ghost use Rattle.cov_meta.specs.Function.{place_at, unit_at, named, text_at, count_at, function_at, placed_function, functions_at};
 
 use crate::entries::OffsetField;

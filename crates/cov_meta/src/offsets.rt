@@ -9,7 +9,8 @@ use cov_outside::NoMemory;
 /// Appends the offsets of pieces with these lengths as numbers of 4 bytes; the first stands at `start`.
 pub fn push_short_offsets(bytes: &mut Bytes, start: u32, lengths: &[u32]) -> Result<(), NoMemory>
     requires { start + sum lengths.now < 2 ^ 32 }
-    ensures { OnOk result (bytes.new ≡ bytes.old ++ flat_map (little_bytes 4) (offsets_from start lengths.now)) }
+    ensures { OnOk result (bytes.new
+        ≡ bytes.old ++ flat_map (little_bytes 4) (offsets_from start lengths.now)) }
 {
     let mut at = start;
     for length in lengths {
@@ -22,7 +23,8 @@ pub fn push_short_offsets(bytes: &mut Bytes, start: u32, lengths: &[u32]) -> Res
 /// The same as numbers of 8 bytes.
 pub fn push_offsets(bytes: &mut Bytes, start: u64, lengths: &[u64]) -> Result<(), NoMemory>
     requires { start + sum lengths.now < 2 ^ 64 }
-    ensures { OnOk result (bytes.new ≡ bytes.old ++ flat_map (little_bytes 8) (offsets_from start lengths.now)) }
+    ensures { OnOk result (bytes.new
+        ≡ bytes.old ++ flat_map (little_bytes 8) (offsets_from start lengths.now)) }
 {
     let mut at = start;
     for length in lengths {

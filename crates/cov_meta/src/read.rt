@@ -1,9 +1,8 @@
 //! Whole meta files.
-ghost use Rattle.std.specs.Prelude.{◌≡◌};
 ghost use Rattle.cov_meta.specs.Fault.{Answers};
 ghost use Rattle.cov_meta.specs.File.{package_at, packages_at, file_at, meta_of};
 
-use crate::allowance::Allowance;
+use crate::allowance::{Allowance, MAX_FILE_BYTES};
 use crate::blob::read_blob;
 use crate::entries::{Entry, read_entries};
 use crate::fault::MetaFault;
@@ -71,14 +70,15 @@ fn read_file(alloc: Global, bytes: &[u8]) -> Result<MetaFile, MetaFault>
     })
 }
 
-/// What a meta file says, or its first fault in the order of reading: the header, all offsets of
-/// packages, all their lengths, then package by package its header, its function offsets, its
-/// string table, its names and its function records.
+/// What a meta file says, or its first fault in the order of reading: the file's size, the header,
+/// all offsets of blobs, all their lengths, then package by package the blob's range, its header,
+/// its function offsets, its string table, its names and its function records. A limit is met where
+/// the number that passes it is read.
 #[tactic(auto, unfolding(crate::specs::File::meta_of))]
 pub fn read_meta(alloc: Global, bytes: &[u8]) -> Result<MetaFile, MetaFault>
     ensures { Answers result (meta_of bytes.now) }
 {
-    if bytes.len() > 268435456 {
+    if bytes.len() > MAX_FILE_BYTES {
         return Err(MetaFault::Limit(Which::DataBytes));
     }
     read_file(alloc, bytes)

@@ -3,7 +3,7 @@ ghost use Rattle.std.specs.Prelude.{◌≡◌, ◌≤◌, ◌<◌, ◌+◌, ◌*
 ghost use Rattle.std.specs.List.{concat};
 ghost use Rattle.cov_bytes.specs.Writing.{uleb_of};
 ghost use Rattle.cov_meta.specs.Spelling.{unit_numbers};
-ghost use Rattle.cov_meta.specs.Written.{record_numbers, record_text, with_texts, function_texts};
+ghost use Rattle.cov_meta.specs.Written.{UnitsFit, record_numbers, record_text, with_texts, function_texts};
 
 use crate::meta::{MetaFunction, MetaUnit};
 use cov_bytes::{Bytes, StringTable};
@@ -26,10 +26,13 @@ pub fn write_records(
     requires few_texts { length table.old ≤ 3 }
     requires few_functions { length functions.now ≤ 1048576 }
     requires few_units { All (λ f. length f.units ≤ 1048576) functions.now }
-    requires small { length (concat (map (record_text (with_texts table.old (flat_map function_texts functions.now))) functions.now)) < 2 ^ 32 }
+    requires small { let texts = with_texts table.old (flat_map function_texts functions.now) in
+        length (concat (map (record_text texts) functions.now)) < 2 ^ 32 }
     ensures texts { OnOk result (table.new ≡ with_texts table.old (flat_map function_texts functions.now)) }
     ensures bytes { IfOk result (λ r. r.bytes ≡ concat (map (record_text table.new) functions.now)) }
-    ensures lengths { IfOk result (λ r. r.lengths.items ≡ map length (map (record_text table.new) functions.now)) }
+    ensures lengths { IfOk result
+        (λ r. r.lengths.items ≡ map length (map (record_text table.new) functions.now)) }
+    ensures fits { OnOk result (All UnitsFit functions.now) }
 {
     let mut bytes = Bytes::new(alloc);
     let mut lengths = Vec::new(alloc);
@@ -50,17 +53,22 @@ fn push_record(
     function: &MetaFunction,
 ) -> Result<(), NoMemory>
     requires { length function.now.units ≤ 1048576 }
-    ensures { OnOk result (bytes.new ≡ bytes.old ++ flat_map uleb_of (record_numbers name file function.now)) }
+    ensures bytes { OnOk result (bytes.new
+        ≡ bytes.old ++ flat_map uleb_of (record_numbers name file function.now)) }
+    ensures fits { OnOk result (UnitsFit function.now) }
 {
     bytes.push_uleb(function.units.len() as u32)?;
     bytes.push_uleb(name)?;
     bytes.push_uleb(file)?;
     push_units(bytes, function.units.as_slice())?;
-    bytes.push_uleb(u32::from(function.literal))
+    bytes.push_uleb(u32::from(function.literal))?;
+    Ok(())
 }
 
 fn push_units(bytes: &mut Bytes, units: &[MetaUnit]) -> Result<(), NoMemory>
-    ensures { OnOk result (bytes.new ≡ bytes.old ++ flat_map uleb_of (flat_map unit_numbers units.now)) }
+    ensures bytes { OnOk result (bytes.new
+        ≡ bytes.old ++ flat_map uleb_of (flat_map unit_numbers units.now)) }
+    ensures fits { OnOk result (All (λ n. n < 2 ^ 32) (flat_map unit_numbers units.now)) }
 {
     for unit in units {
         push_unit(bytes, unit)?;
@@ -69,11 +77,13 @@ fn push_units(bytes: &mut Bytes, units: &[MetaUnit]) -> Result<(), NoMemory>
 }
 
 fn push_unit(bytes: &mut Bytes, unit: &MetaUnit) -> Result<(), NoMemory>
-    ensures { OnOk result (bytes.new ≡ bytes.old ++ flat_map uleb_of (unit_numbers unit.now)) }
+    ensures bytes { OnOk result (bytes.new ≡ bytes.old ++ flat_map uleb_of (unit_numbers unit.now)) }
+    ensures fits { OnOk result (All (λ n. n < 2 ^ 32) (unit_numbers unit.now)) }
 {
     bytes.push_uleb(unit.start.line)?;
     bytes.push_uleb(unit.start.column)?;
     bytes.push_uleb(unit.end.line)?;
     bytes.push_uleb(unit.end.column)?;
-    bytes.push_uleb(unit.statements)
+    bytes.push_uleb(unit.statements)?;
+    Ok(())
 }

@@ -3,7 +3,8 @@ ghost use Rattle.std.specs.Prelude.{◌≡◌, ◌≤◌, ◌++◌, length, map,
 ghost use Rattle.std.specs.List.{concat};
 ghost use Rattle.cov_meta.specs.Spelling.{mode_number};
 ghost use Rattle.cov_meta.specs.Hash.{blob_hash, meta_hash};
-ghost use Rattle.cov_meta.specs.Written.{KeepsLimits, PackageFits, blob_text, file_head, meta_text};
+ghost use Rattle.cov_meta.specs.Written.{KeepsLimits, NumbersFit, UnitsFit, blob_text, file_head, meta_text};
+ghost use Rattle.cov_meta.specs.Parts.{PackageFits};
 
 use crate::hash::{hash_blobs, hash_file};
 use crate::meta::{Meta, MetaPackage};
@@ -20,12 +21,15 @@ pub struct Written {
     pub bytes: Vec<u8>,
 }
 
-/// The meta file of a value that keeps the limits on packages, functions, units and texts. The texts of a package are
-/// numbered by their first use; records, blobs and their offsets follow each other in order. The file may pass the limit on its bytes.
+/// The meta file of a value that keeps the limits on packages, functions, units and texts. The
+/// texts of a package are numbered by their first use; records and blobs follow each other in
+/// order. The file may pass the limit on a file's bytes.
 pub fn write_meta(alloc: Global, meta: &Meta) -> Result<Written, NoMemory>
     requires { KeepsLimits meta.now }
     ensures hash { IfOk result (λ written. written.hash ≡ meta_hash meta.now) }
     ensures bytes { IfOk result (λ written. written.bytes.items ≡ meta_text meta.now) }
+    // With this the law of `written_laws` says that the bytes spell the value.
+    ensures fits { OnOk result (NumbersFit meta.now) }
 {
     let packages = meta.packages.as_slice();
     let hashes = hash_blobs(alloc, packages)?;
@@ -68,7 +72,9 @@ fn write_blobs(
     requires fits { All PackageFits packages.now }
     requires hashes { hashes.now ≡ map blob_hash packages.now }
     ensures bytes { IfOk result (λ blobs. blobs.bytes ≡ concat (map blob_text packages.now)) }
-    ensures lengths { IfOk result (λ blobs. blobs.lengths.items ≡ map length (map blob_text packages.now)) }
+    ensures lengths { IfOk result
+        (λ blobs. blobs.lengths.items ≡ map length (map blob_text packages.now)) }
+    ensures fits { OnOk result (All (λ p. All UnitsFit p.functions) packages.now) }
 {
     let mut bytes = Bytes::new(alloc);
     let mut lengths = Vec::new(alloc);

@@ -1,7 +1,8 @@
 //! A package's blob, as it is written.
-ghost use Rattle.std.specs.Prelude.{◌≡◌, ◌≤◌, ◌++◌, [], ◌∷◌, length, OnOk, IfOk};
+ghost use Rattle.std.specs.Prelude.{◌≡◌, ◌≤◌, ◌++◌, [], ◌∷◌, length, All, OnOk, IfOk};
 ghost use Rattle.cov_meta.specs.Hash.{blob_hash};
-ghost use Rattle.cov_meta.specs.Written.{NumbersAre, PartsAre, PackageFits, with_texts, blob_head, blob_text};
+ghost use Rattle.cov_meta.specs.Written.{UnitsFit, with_texts, blob_head, blob_text};
+ghost use Rattle.cov_meta.specs.Parts.{NumbersAre, PartsAre, PackageFits};
 
 use crate::blob::TextNumbers;
 use crate::meta::MetaPackage;
@@ -31,7 +32,8 @@ pub fn push_blob(
 ) -> Result<(), NoMemory>
     requires fits { PackageFits «package».now }
     requires hash { hash.now ≡ blob_hash «package».now }
-    ensures { OnOk result (bytes.new ≡ bytes.old ++ blob_text «package».now) }
+    ensures bytes { OnOk result (bytes.new ≡ bytes.old ++ blob_text «package».now) }
+    ensures fits { OnOk result (All UnitsFit «package».now.functions) }
 {
     let functions = package.functions.len();
     let parts = blob_parts(alloc, package)?;
@@ -64,7 +66,8 @@ fn blob_parts(alloc: Global, package: &MetaPackage) -> Result<BlobParts, NoMemor
 /// The numbers of a package's own texts, the first in its table.
 fn number_names(table: &mut StringTable, package: &MetaPackage) -> Result<TextNumbers, NoMemory>
     requires { table.old ≡ [] }
-    ensures texts { OnOk result (table.new ≡ with_texts [] («package».now.name ∷ «package».now.path ∷ «package».now.«module» ∷ [])) }
+    ensures texts { let p = «package».now in
+        OnOk result (table.new ≡ with_texts [] (p.name ∷ p.path ∷ p.«module» ∷ [])) }
     ensures few { OnOk result (length table.new ≤ 3) }
     ensures numbers { IfOk result (λ n. NumbersAre table.new n «package».now) }
 {
@@ -74,7 +77,8 @@ fn number_names(table: &mut StringTable, package: &MetaPackage) -> Result<TextNu
     Ok(TextNumbers { name, path, module })
 }
 
-/// The first 44 bytes of a blob: its size, the numbers of its names, its hash, and how many texts and functions it has.
+/// The first 44 bytes of a blob: its size, the numbers of its names, its hash, and how many texts
+/// and functions it has.
 fn push_head(
     bytes: &mut Bytes,
     size: u32,
@@ -82,7 +86,8 @@ fn push_head(
     hash: &[u8; 16],
     functions: u32,
 ) -> Result<(), NoMemory>
-    ensures { OnOk result (bytes.new ≡ bytes.old ++ blob_head size parts.now.numbers hash.now parts.now.count functions) }
+    ensures { OnOk result (bytes.new
+        ≡ bytes.old ++ blob_head size parts.now.numbers hash.now parts.now.count functions) }
 {
     bytes.push_u32(size)?;
     bytes.push_u32(parts.numbers.name)?;

@@ -1,4 +1,3 @@
-use Rattle.std.proofs.Common.{◌++◌}
 use Rattle.cov_meta.proofs.Hashing.{takes_both}
 use Rattle.cov_meta.proofs.hash.take_unit.Goals as goal
 

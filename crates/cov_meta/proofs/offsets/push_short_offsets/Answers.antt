@@ -1,4 +1,4 @@
-use Rattle.std.proofs.Common.{◌≡◌, ℕ, arith}
+use Rattle.std.proofs.Common.{ℕ, arith}
 use Rattle.std.proofs.lemmas.List.Sums.{sum_by_more}
 use Rattle.cov_meta.proofs.Pieces.{offset_pushed}
 use Rattle.cov_meta.proofs.offsets.push_short_offsets.Goals as goal

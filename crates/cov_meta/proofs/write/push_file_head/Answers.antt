@@ -1,4 +1,4 @@
-use Rattle.std.proofs.Common.{◌≡◌, append_assoc}
+use Rattle.std.proofs.Common.{append_assoc}
 use Rattle.cov_meta.specs.Written.{file_head}
 use Rattle.cov_meta.proofs.write.push_file_head.Goals as goal
 

@@ -1,10 +1,10 @@
-use Rattle.std.proofs.Common.{◌≡◌, ℕ, ◌+◌, ◌*◌, List, ◌++◌, length, map, flat_map, codes, sum, All, refl, sym, ap, subst, ◌∙◌, arith}
+use Rattle.std.proofs.Common.{◌≡◌, ℕ, ◌+◌, ◌*◌, List, ◌++◌, length, map, flat_map, codes, sum, All, sym, ap, subst, ◌∙◌, arith}
 use Rattle.std.specs.List.{concat}
-use Rattle.cov_meta.specs.declared.meta.MetaPackage.{MetaPackage}
 use Rattle.byteorder.specs.Endian.{little_bytes}
 use Rattle.md5.specs.Md5.{md5}
 use Rattle.cov_meta.specs.Hash.{blob_hash, mode_name, meta_hash}
-use Rattle.cov_meta.specs.Written.{PackageFits, blob_text, file_head}
+use Rattle.cov_meta.specs.Written.{UnitsFit, blob_text, file_head}
+use Rattle.cov_meta.specs.Parts.{PackageFits}
 use Rattle.cov_meta.proofs.Lengths.{blobs_small}
 use Rattle.cov_meta.proofs.Limits.{packages_fit}
 use Rattle.cov_meta.proofs.Pieces.{sum_lengths}
@@ -38,3 +38,6 @@ returns-clause-bytes c =
     file_is c.args.meta.now c.push_file_head.new.bytes c.push_offsets.new.bytes c.push_numbers.new.bytes c.push.new.self c.into_vec.result.items (58 + 16 * length c.as_slice-packages.result.now + c.len.result) (58 + 16 * length c.as_slice-packages.result.now) (length c.as_slice-packages.result.now) c.hash_file-hash.result c.as_slice.result.now c.deref-3.result.now
     (c.in_ok-push_file_head.ensures ∙ ap (λ (t : List ℕ). t ++ file_head (58 + 16 * length c.as_slice-packages.result.now + c.len.result) (length c.as_slice-packages.result.now) c.hash_file-hash.result c.args.meta.now.mode) c.new-bytes.ensures) c.in_ok-push_offsets.ensures (c.in_ok-push_numbers.ensures ∙ ap (λ (ns : List ℕ). c.push_offsets.new.bytes ++ flat_map (little_bytes 8) ns) same) c.in_ok-push.ensures.ok (c.into_vec.ensures ∙ c.in_ok-push-2.ensures.ok)
     hash blobs sizes count (omega arith) (omega (arith, c.len.ensures))
+
+pub returns-clause-fits : goal.returns-clause-fits
+returns-clause-fits c = subst (All (λ p. All UnitsFit p.functions)) c.as_slice-packages.ensures c.in_ok-blobs.ensures.fits

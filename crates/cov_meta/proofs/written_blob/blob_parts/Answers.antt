@@ -1,8 +1,9 @@
-use Rattle.std.proofs.Common.{◌≡◌, ℕ, ◌<◌, ◌≤◌, ◌^◌, List, length, map, flat_map, All, refl, sym, ap, subst, ◌∙◌, arith}
+use Rattle.std.proofs.Common.{ℕ, ◌<◌, ◌≤◌, ◌^◌, List, length, map, flat_map, All, sym, ap, subst, ◌∙◌, arith}
 use Rattle.std.specs.List.{concat}
 use Rattle.std.proofs.lemmas.List.Elements.{All-weaker}
 use Rattle.cov_bytes.specs.Writing.{table_text}
-use Rattle.cov_meta.specs.Written.{texts_of, record_text, with_texts, function_texts, NumbersAre}
+use Rattle.cov_meta.specs.Written.{UnitsFit, texts_of, with_texts, function_texts}
+use Rattle.cov_meta.specs.Parts.{NumbersAre}
 use Rattle.cov_meta.proofs.BlobLemmas.{texts_all, records_by, numbers_in_turn}
 use Rattle.cov_meta.proofs.written_blob.blob_parts.Goals as goal
 
@@ -40,5 +41,6 @@ returns c =
       count = c.len-count.ensures ∙ ap length texts;
       table = c.in_ok-table.ensures ∙ ap table_text texts;
       records = c.in_ok-records.ensures.bytes ∙ ap concat records;
+      fits = subst (All UnitsFit) c.as_slice.ensures c.in_ok-records.ensures.fits;
       lengths = c.in_ok-records.ensures.lengths ∙ ap (map length) records;
     }

@@ -1,7 +1,6 @@
-use Rattle.std.proofs.Common.{◌≡◌, ℕ, ◌+◌, ◌*◌, List, length, map, sum, refl, sym, ap, ◌∙◌, arith}
+use Rattle.std.proofs.Common.{◌≡◌, length, sum, ap, ◌∙◌, arith}
 use Rattle.std.specs.List.{concat}
-use Rattle.cov_bytes.specs.Writing.{table_text}
-use Rattle.cov_meta.specs.Written.{texts_of, records_of}
+use Rattle.cov_meta.specs.Written.{records_of}
 use Rattle.cov_meta.proofs.BlobLemmas.{blob_is}
 use Rattle.cov_meta.proofs.Pieces.{sum_lengths}
 use Rattle.cov_meta.proofs.written_blob.push_blob.Goals as goal
@@ -13,8 +12,8 @@ push_short_offsets-requires c =
     let lengths : sum c.deref.result.now ≡ length (concat (records_of p)) = ap sum (c.deref.ensures.value ∙ parts.lengths) ∙ sum_lengths (records_of p) in
     omega (arith, c.requires.fits.small, c.len-functions.ensures, c.len.ensures, ap length parts.table, lengths)
 
-pub returns : goal.returns
-returns c =
+pub returns-clause-bytes : goal.returns-clause-bytes
+returns-clause-bytes c =
     let p = c.args.package.now in
     let parts = c.in_ok-parts.ensures in
     blob_is p c.args.bytes.now c.push_head.new.bytes c.push_short_offsets.new.bytes c.push.new.self c.push-2.new.self _ _ _ _ _ _ _ _ _

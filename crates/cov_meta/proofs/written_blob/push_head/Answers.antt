@@ -1,4 +1,4 @@
-use Rattle.std.proofs.Common.{◌≡◌, append_assoc}
+use Rattle.std.proofs.Common.{append_assoc}
 use Rattle.cov_meta.specs.Written.{blob_head}
 use Rattle.cov_meta.proofs.written_blob.push_head.Goals as goal
 

@@ -1,9 +1,8 @@
-use Rattle.std.proofs.Common.{◌≡◌, ℕ, ◌≤◌, Bool, false, List, [], ◌∷◌, ◌++◌, length, codes, sum_by, All, refl, sym, ap, subst, ◌∙◌, arith, lit≤}
+use Rattle.std.proofs.Common.{◌≡◌, ℕ, ◌≤◌, Bool, false, List, [], ◌∷◌, length, codes, sum_by, All, refl, sym, ap, subst, ◌∙◌, arith, lit≤}
 use Rattle.std.proofs.lemmas.List.Elements.{All-nil, All-cons}
 use Rattle.cov_outside.specs.declared.mode.Mode.{Mode}
 use Rattle.cov_outside.specs.declared.mode.Mode.TheVariants.{Set}
 use Rattle.cov_meta.specs.declared.meta.MetaUnit.{MetaUnit}
-use Rattle.cov_meta.specs.declared.meta.MetaFunction.{MetaFunction}
 use Rattle.cov_meta.specs.declared.meta.MetaPackage.{MetaPackage}
 use Rattle.cov_meta.specs.declared.meta.Meta.{Meta}
 use Rattle.cov_meta.specs.Written.{KeepsLimits, texts_of}
