@@ -144,3 +144,6 @@ pub fn collect(alloc: Global, dirs: &[DirNames]) -> Result<Vec<Pod>, NoMemory>
     }
     Ok(pods)
 }
+
+#[cfg(test)]
+mod tests;
