@@ -1,3 +1,6 @@
 pub mod Causes
+pub mod Counting
+pub mod Made
+pub mod Told
 pub mod Short
 pub mod TextPaths

@@ -1,6 +1,6 @@
 use Rattle.std.proofs.Common.{◌≡◌, ◌-◌}
 use Rattle.cov_counter.specs.Reader.{IsReady, IsBefore}
-use Rattle.cov_pods.proofs.decode.add_entries.Given as goal
+use Rattle.cov_pods.proofs.counter_file.add_entries.Given as goal
 
 abbrev pub invariant-loop : goal.invariant-loop
 invariant-loop g l = record {

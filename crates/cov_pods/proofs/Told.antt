@@ -1,0 +1,53 @@
+-- What a fault of a file says of the pod.
+use Rattle.std.proofs.Common.{◌≡◌, ℕ, List, Option, Some, None, Result, Ok, Err, refl, ap, sym, ◌∙◌}
+use Rattle.std.specs.Prelude.{IfSome}
+use Rattle.cov_bytes.specs.Many.{◌>>=◌}
+use Rattle.cov_outside.specs.declared.data_kind.DataKind.{DataKind}
+use Rattle.cov_outside.specs.declared.whole.WholeFault.{WholeFault}
+use Rattle.cov_outside.specs.declared.whole.WholeFault.TheVariants as whole
+use Rattle.cov_outside.specs.Whole as outside
+use Rattle.cov_counter.specs.declared.fault.CounterFault.{CounterFault}
+use Rattle.cov_counter.specs.declared.fault.CounterFault.TheVariants as counter
+use Rattle.cov_counter.specs.Outside as reader
+use Rattle.cov_pods.specs.declared.fault.PodFault.{PodFault}
+use Rattle.cov_pods.specs.declared.fault.PodFault.TheVariants as faults
+use Rattle.cov_pods.specs.Faults.{Becomes, whole_fault, counter_fault}
+use Rattle.cov_pods.specs.Decoding.{Fails, Gives, IsFaultOf, Matches, from_whole, from_counter}
+
+-- ---- facts of a tree that may not be known
+
+pub some_also : {A : Type 0} (P Q : A → Type 0) (o : Option A) → ((t : A) → P t → Q t) → IfSome o P → IfSome o Q
+some_also P Q None f p = tt
+some_also P Q (Some t) f p = f t p
+
+pub some_both : {A : Type 0} (P Q R : A → Type 0) (o : Option A) → ((t : A) → P t → Q t → R t) → IfSome o P → IfSome o Q → IfSome o R
+some_both P Q R None f p q = tt
+some_both P Q R (Some t) f p q = f t p q
+
+pub some_all : {A : Type 0} (P : A → Type 0) (o : Option A) → ((t : A) → P t) → IfSome o P
+some_all P None f = tt
+some_all P (Some t) f = f t
+
+-- ---- faults
+
+-- a fault that is answered with its path, or for want of memory
+pub becomes_told : {Y : Type 0} (fault e : PodFault) (there : Result Y PodFault) → Becomes fault e → IsFaultOf fault there → IsFaultOf e there
+becomes_told (faults.Data path offset kind) (faults.Data p o k) there b h = rw b h
+becomes_told fault e there b h = ?
+
+-- a fault of a part is the fault of the whole
+pub further : {A B : Type 0} (e : PodFault) (part : Result A PodFault) (all : Result B PodFault) → ((f : PodFault) → part ≡ Err f → all ≡ Err f) → IsFaultOf e part → IsFaultOf e all
+further (faults.Data path offset kind) part all carry h = carry (faults.Data path offset kind) h
+further (faults.Mode mode) part all carry h = carry (faults.Mode mode) h
+further (faults.Limit w) part all carry h = carry (faults.Limit w) h
+further (faults.Missing path) part all carry h = carry (faults.Missing path) h
+further faults.Read part all carry h = tt
+further faults.NoMemory part all carry h = tt
+
+pub failed_told : {Y : Type 0} (e : PodFault) (there : Result Y PodFault) → Fails e there → IsFaultOf e there
+failed_told (faults.Data path offset kind) there h = h
+failed_told (faults.Mode mode) there h = h
+failed_told (faults.Limit w) there h = h
+failed_told (faults.Missing path) there h = absurd h
+failed_told faults.Read there h = tt
+failed_told faults.NoMemory there h = tt
