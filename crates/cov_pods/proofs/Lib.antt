@@ -1,6 +1,10 @@
+pub mod Bind
 pub mod Causes
 pub mod Counting
+pub mod Entries
+pub mod Fitting
 pub mod Made
-pub mod Told
 pub mod Short
+pub mod ShortEntries
 pub mod TextPaths
+pub mod Told

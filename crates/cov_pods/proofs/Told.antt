@@ -1,5 +1,5 @@
 -- What a fault of a file says of the pod.
-use Rattle.std.proofs.Common.{◌≡◌, ℕ, List, Option, Some, None, Result, Ok, Err, refl, ap, sym, ◌∙◌}
+use Rattle.std.proofs.Common.{◌≡◌, ℕ, List, Option, Some, None, Result, Ok, Err, refl, ap, sym, ◌∙◌, subst}
 use Rattle.std.specs.Prelude.{IfSome}
 use Rattle.cov_bytes.specs.Many.{◌>>=◌}
 use Rattle.cov_outside.specs.declared.data_kind.DataKind.{DataKind}
@@ -32,8 +32,31 @@ some_all P (Some t) f = f t
 
 -- a fault that is answered with its path, or for want of memory
 pub becomes_told : {Y : Type 0} (fault e : PodFault) (there : Result Y PodFault) → Becomes fault e → IsFaultOf fault there → IsFaultOf e there
-becomes_told (faults.Data path offset kind) (faults.Data p o k) there b h = rw b h
-becomes_told fault e there b h = ?
+becomes_told fault (faults.Data path offset kind) there b h = subst (λ (f : PodFault). IsFaultOf f there) b h
+becomes_told fault (faults.Mode mode) there b h = subst (λ (f : PodFault). IsFaultOf f there) b h
+becomes_told fault (faults.Limit w) there b h = subst (λ (f : PodFault). IsFaultOf f there) b h
+becomes_told fault (faults.Missing path) there b h = subst (λ (f : PodFault). IsFaultOf f there) b h
+becomes_told fault faults.Read there b h = tt
+becomes_told fault faults.NoMemory there b h = tt
+
+whole_is : {X Y : Type 0} (view : X → Y) (path : List ℕ) (f : WholeFault) (there : Result Y WholeFault) → outside.Finds view (Err f) there → IsFaultOf (whole_fault path f) (from_whole path there)
+whole_is view path whole.Missing there h = ap (from_whole path) h
+whole_is view path whole.Limit there h = ap (from_whole path) h
+whole_is view path whole.Read there h = tt
+whole_is view path whole.NoMemory there h = tt
+
+pub whole_told : {X Y : Type 0} (view : X → Y) (path : List ℕ) (f : WholeFault) (e : PodFault) (there : Result Y WholeFault) → Becomes (whole_fault path f) e → outside.Finds view (Err f) there → IsFaultOf e (from_whole path there)
+whole_told view path f e there b h = becomes_told (whole_fault path f) e (from_whole path there) b (whole_is view path f there h)
+
+counter_is : {Y : Type 0} (path : List ℕ) (f : CounterFault) (there : Result Y CounterFault) → reader.IsFaultOf f there → IsFaultOf (counter_fault path f) (from_counter path there)
+counter_is path (counter.At offset kind) there h = ap (from_counter path) h
+counter_is path (counter.Limit w) there h = ap (from_counter path) h
+counter_is path counter.Missing there h = ap (from_counter path) h
+counter_is path counter.Read there h = tt
+counter_is path counter.NoMemory there h = tt
+
+pub counter_told : {Y : Type 0} (path : List ℕ) (f : CounterFault) (e : PodFault) (there : Result Y CounterFault) → Becomes (counter_fault path f) e → reader.IsFaultOf f there → IsFaultOf e (from_counter path there)
+counter_told path f e there b h = becomes_told (counter_fault path f) e (from_counter path there) b (counter_is path f there h)
 
 -- a fault of a part is the fault of the whole
 pub further : {A B : Type 0} (e : PodFault) (part : Result A PodFault) (all : Result B PodFault) → ((f : PodFault) → part ≡ Err f → all ≡ Err f) → IsFaultOf e part → IsFaultOf e all
