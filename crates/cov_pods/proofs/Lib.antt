@@ -1,5 +1,6 @@
 pub mod Bind
 pub mod Causes
+pub mod CounterFiles
 pub mod Counting
 pub mod Entries
 pub mod Fitting

@@ -24,6 +24,10 @@ pub some_both : {A : Type 0} (P Q R : A → Type 0) (o : Option A) → ((t : A) 
 some_both P Q R None f p q = tt
 some_both P Q R (Some t) f p q = f t p q
 
+pub some_three : {A : Type 0} (P Q R S : A → Type 0) (o : Option A) → ((t : A) → P t → Q t → R t → S t) → IfSome o P → IfSome o Q → IfSome o R → IfSome o S
+some_three P Q R S None f p q r = tt
+some_three P Q R S (Some t) f p q r = f t p q r
+
 pub some_all : {A : Type 0} (P : A → Type 0) (o : Option A) → ((t : A) → P t) → IfSome o P
 some_all P None f = tt
 some_all P (Some t) f = f t
