@@ -5,7 +5,9 @@ pub mod Counting
 pub mod Entries
 pub mod Fitting
 pub mod Made
+pub mod PodFiles
 pub mod Short
 pub mod ShortEntries
+pub mod ShortParts
 pub mod TextPaths
 pub mod Told
