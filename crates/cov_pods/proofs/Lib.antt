@@ -1,7 +1,17 @@
+pub mod Bind
 pub mod Causes
 pub mod CounterFiles
+pub mod CountersMet
+pub mod Counting
+pub mod Entries
 pub mod Firsts
+pub mod Fitting
 pub mod FoundFiles
+pub mod Made
 pub mod Passes
+pub mod PodFiles
 pub mod Short
+pub mod ShortEntries
+pub mod ShortParts
 pub mod TextPaths
+pub mod Told

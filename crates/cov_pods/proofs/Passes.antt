@@ -8,7 +8,7 @@ use Rattle.cov_bytes.specs.Intern.{index_of, with_text}
 use Rattle.cov_pods.specs.declared.pod.Pod.{Pod}
 use Rattle.cov_pods.specs.Pods.{Found, firsts, pod_of, HoldsMetas, HoldsCounters}
 use Rattle.cov_pods.proofs.Firsts.{is_met, firsts_push, firsts_apart}
-use Rattle.cov_pods.proofs.CounterFiles.{place_among, same_pod, orphan, taken, has_place}
+use Rattle.cov_pods.proofs.CountersMet.{place_among, same_pod, orphan, taken, has_place}
 
 -- a text is among others exactly where its place is below their number
 met_is : (text : List ℕ) (xs : List (List ℕ)) → list_any (bytes_eq text) xs ≡ true → index_of xs text < length xs

@@ -1,6 +1,9 @@
 pub mod Decoding
 pub mod Faults
+pub mod Fits
 pub mod Names
 pub mod Outside
 pub mod Paths
+pub mod PodCounts
 pub mod Pods
+pub mod Stages

@@ -1,52 +1,67 @@
 //! How often each unit of a meta value was counted.
-use cov_meta::{Meta, MetaFunction, MetaPackage};
+ghost use Rattle.std.specs.Prelude.{◌≡◌, ℕ, ◌<◌, [], ◌∷◌, length, map, replicate, slice_index, IfOk};
+ghost use Rattle.cov_outside.specs.Mode.{combined};
+ghost use Rattle.cov_pods.specs.PodCounts.{pod_counts, IsCounted, Grows};
+ghost use Rattle.cov_pods.specs.Fits.{fits};
+
+use cov_counter::Entry;
+use cov_meta::{Meta, MetaPackage};
 use cov_outside::{Mode, NoMemory, Sequence};
 use std::alloc::Global;
 
-fn zeros_of(alloc: Global, package: &MetaPackage) -> Result<Vec<Vec<u32>>, NoMemory> {
-    let mut counts = Vec::new(alloc);
+/// The count of each unit, by package and function.
+pub type Counts = Sequence<Sequence<Sequence<u32>>>;
+
+fn package_zeros(
+    alloc: Global,
+    package: &MetaPackage,
+) -> Result<Sequence<Sequence<u32>>, NoMemory>
+    ensures { IfOk result (λ counts. counts ≡ map (λ f. replicate (length f.units) 0) «package».now.functions) }
+{
+    let mut counts = Sequence::new(alloc);
     for function in package.functions.as_slice() {
         let units = function.units.len();
-        counts.push(vec![in alloc; 0; units]?)?;
+        let zeros = vec![in alloc; 0; units]?;
+        counts.push(Sequence::from_vec(zeros))?;
     }
     Ok(counts)
 }
 
-/// A count of 0 for each unit.
-pub fn zeros(alloc: Global, meta: &Meta) -> Result<Vec<Vec<Vec<u32>>>, NoMemory> {
-    let mut counts = Vec::new(alloc);
+/// The counts before any entry: 0 for each unit.
+pub fn zeros(alloc: Global, meta: &Meta) -> Result<Counts, NoMemory>
+    ensures { IfOk result (λ counts. counts ≡ pod_counts meta.now []) }
+{
+    let mut counts = Sequence::new(alloc);
     for package in meta.packages.as_slice() {
-        counts.push(zeros_of(alloc, package)?)?;
+        counts.push(package_zeros(alloc, package)?)?;
     }
     Ok(counts)
 }
 
-/// Adds counters to the counts of a function, by the rule of the mode.
-pub fn add_counts(mode: Mode, counts: &mut [u32], counters: &[u32]) {
-    for (count, counter) in counts.iter_mut().zip(counters) {
-        *count = mode.combine(*count, *counter);
+/// The counts of a function and its counters together, by the rule of the mode.
+fn combined_counts(mode: Mode, counts: Sequence<u32>, counters: &[u32]) -> Sequence<u32>
+    requires { length counts ≡ length counters.now }
+    ensures same { length result ≡ length counts }
+    ensures each { (k : ℕ) → k < length counts → slice_index result k ≡ combined mode (slice_index counts k) (slice_index counters.now k) }
+{
+    let mut sums = counts.into_vec();
+    for (i, count) in sums.iter_mut().enumerate() {
+        *count = mode.combine(*count, counters[i]);
     }
+    Sequence::from_vec(sums)
 }
 
-fn sealed_functions(
-    alloc: Global,
-    counts: Vec<Vec<u32>>,
-) -> Result<Sequence<Sequence<u32>>, NoMemory> {
-    let mut sealed = Vec::with_capacity(alloc, counts.len())?;
-    for units in counts {
-        sealed.push(Sequence::from_vec(units))?;
-    }
-    Ok(Sequence::from_vec(sealed))
-}
-
-/// The same counts, as contracts see them.
-pub fn sealed(
-    alloc: Global,
-    counts: Vec<Vec<Vec<u32>>>,
-) -> Result<Sequence<Sequence<Sequence<u32>>>, NoMemory> {
-    let mut sealed = Vec::with_capacity(alloc, counts.len())?;
-    for functions in counts {
-        sealed.push(sealed_functions(alloc, functions)?)?;
-    }
-    Ok(Sequence::from_vec(sealed))
+/// Adds an entry that fits to the counts of its function.
+pub fn add_entry(alloc: Global, meta: &Meta, counts: &mut Counts, entry: &Entry)
+    requires fitting { fits meta.now entry.now ≡ Ok tt }
+    requires counted { IsCounted meta.now counts.old }
+    ensures { Grows meta.now counts.old counts.new (entry.now ∷ []) }
+{
+    let package = entry.package as usize;
+    let function = entry.function as usize;
+    let mut functions = counts.replace(package, Sequence::new(alloc));
+    let units = functions.replace(function, Sequence::new(alloc));
+    let sums = combined_counts(meta.mode, units, entry.counts.as_slice());
+    let _no_units = functions.replace(function, sums);
+    let _no_functions = counts.replace(package, functions);
 }

@@ -1,12 +1,14 @@
 //! Pods: meta files with their counter files, and what they count.
 #![tactic(auto)]
 
+mod counter_file;
 mod counts;
 mod decode;
 mod decoded;
 mod fault;
 mod group;
 mod names;
+mod path_fault;
 mod pod;
 
 pub use decode::decode_pod;
