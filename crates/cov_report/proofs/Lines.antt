@@ -1,14 +1,10 @@
--- The lines of units, in terms of those that are left.
-use Rattle.std.proofs.Common.{◌≡◌, ℕ, ◌+◌, ◌<◌, ◌≤◌, zero, suc, true, false, cond, List, [], ◌∷◌, ◌++◌, length, drop, Some, None, refl, sym, ap, ◌∙◌, append_assoc, append-nil, add-one, drop-cons, arith}
+-- The lines of those things that are kept, in terms of those that are left.
+use Rattle.std.proofs.Common.{◌≡◌, ℕ, ◌+◌, ◌<◌, ◌≤◌, zero, suc, Bool, true, false, cond, List, [], ◌∷◌, ◌++◌, length, drop, Some, None, refl, sym, ap, ◌∙◌, append_assoc, append-nil, add-one, drop-cons, arith}
 use Rattle.std.specs.Prelude.{slice_get}
 use Rattle.std.proofs.lemmas.Option.{get_or_from_slice_get}
-use Rattle.std.proofs.Math.ListN.{drop_of_length-le}
-use Rattle.std.specs.List.{flat_map}
-use Rattle.cov_table.specs.Key.{Key}
-use Rattle.cov_report.specs.Filter.{keeps}
-use Rattle.cov_report.specs.TextProfile.{unit_line, kept_units}
+use Rattle.std.specs.List.{filter, flat_map}
 
-one_more : {A : Type 0} (xs : List A) (i : ℕ) (x : A) → Some x ≡ slice_get xs i → drop i xs ≡ x ∷ drop (i + 1) xs
+pub one_more : {A : Type 0} (xs : List A) (i : ℕ) (x : A) → Some x ≡ slice_get xs i → drop i xs ≡ x ∷ drop (i + 1) xs
 one_more xs i x e =
     let h : i < length xs = within xs i x e in
     rw (add-one, drop-cons xs i x) (ap (λ t. t ∷ drop (suc i) xs) (get_or_from_slice_get xs i x x (sym e)))
@@ -18,26 +14,23 @@ one_more xs i x e =
     within (y ∷ xs) zero x e = omega arith
     within (y ∷ xs) (suc i) x e = let h = within xs i x e in omega arith
 
-kept_first : (patterns : List (List ℕ)) (u : Key × ℕ) (units : List (Key × ℕ)) → flat_map unit_line (kept_units patterns (u ∷ [])) ++ flat_map unit_line (kept_units patterns units) ≡ flat_map unit_line (kept_units patterns (u ∷ units))
-kept_first patterns u units =
-    elim (keeps patterns u.0.package_path) as (λ b. flat_map unit_line (cond b (u ∷ []) []) ++ flat_map unit_line (kept_units patterns units) ≡ flat_map unit_line (cond b (u ∷ kept_units patterns units) (kept_units patterns units))) [
-      | true ↦ ap (λ t. t ++ flat_map unit_line (kept_units patterns units)) (append-nil (unit_line u))
-      | false ↦ refl
-    ]
-
-pub lines_step : (patterns : List (List ℕ)) (front after : List ℕ) (units : List (Key × ℕ)) (i : ℕ) (u : Key × ℕ) → Some u ≡ slice_get units i → after ≡ front ++ flat_map unit_line (kept_units patterns (u ∷ []))
-    → after ++ flat_map unit_line (kept_units patterns (drop (i + 1) units)) ≡ front ++ flat_map unit_line (kept_units patterns (drop i units))
-lines_step patterns front after units i u at e =
-    ap (λ t. t ++ flat_map unit_line (kept_units patterns (drop (i + 1) units))) e
-    ∙ append_assoc front (flat_map unit_line (kept_units patterns (u ∷ []))) (flat_map unit_line (kept_units patterns (drop (i + 1) units)))
-    ∙ ap (λ t. front ++ t) (kept_first patterns u (drop (i + 1) units))
-    ∙ ap (λ t. front ++ flat_map unit_line (kept_units patterns t)) (sym (one_more units i u at))
-
--- past the end nothing is left
-pub lines_none : (patterns : List (List ℕ)) (front : List ℕ) (units : List (Key × ℕ)) (i : ℕ) → length units ≤ i → front ++ flat_map unit_line (kept_units patterns (drop i units)) ≡ front
-lines_none patterns front units i h = ap (λ t. front ++ flat_map unit_line (kept_units patterns t)) (drop_of_length-le units h) ∙ append-nil front
-
-pub none_past : (units : List (Key × ℕ)) (i : ℕ) → None ≡ slice_get units i → length units ≤ i
+pub none_past : {A : Type 0} (units : List A) (i : ℕ) → None ≡ slice_get units i → length units ≤ i
 none_past [] i e = omega arith
 none_past (u ∷ units) zero e = cc
 none_past (u ∷ units) (suc i) e = let h = none_past units i e in omega arith
+
+module _ {A : Type 0} (line : A → List ℕ) (keep : A → Bool) where
+  kept_first : (x : A) (xs : List A) → flat_map line (filter keep (x ∷ [])) ++ flat_map line (filter keep xs) ≡ flat_map line (filter keep (x ∷ xs))
+  kept_first x xs =
+      elim (keep x) as (λ b. flat_map line (cond b (x ∷ []) []) ++ flat_map line (filter keep xs) ≡ flat_map line (cond b (x ∷ filter keep xs) (filter keep xs))) [
+        | true ↦ ap (λ (t : List ℕ). t ++ flat_map line (filter keep xs)) (append-nil (line x))
+        | false ↦ refl
+      ]
+
+  pub lines_step : (front after : List ℕ) (xs : List A) (i : ℕ) (x : A) → Some x ≡ slice_get xs i → after ≡ front ++ flat_map line (filter keep (x ∷ []))
+      → after ++ flat_map line (filter keep (drop (i + 1) xs)) ≡ front ++ flat_map line (filter keep (drop i xs))
+  lines_step front after xs i x at e =
+      ap (λ (t : List ℕ). t ++ flat_map line (filter keep (drop (i + 1) xs))) e
+      ∙ append_assoc front (flat_map line (filter keep (x ∷ []))) (flat_map line (filter keep (drop (i + 1) xs)))
+      ∙ ap (λ (t : List ℕ). front ++ t) (kept_first x (drop (i + 1) xs))
+      ∙ ap (λ (t : List A). front ++ flat_map line (filter keep t)) (sym (one_more xs i x at))

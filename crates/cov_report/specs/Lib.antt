@@ -1,2 +1,4 @@
 pub mod Filter
 pub mod TextProfile
+pub mod Packages
+pub mod Shares

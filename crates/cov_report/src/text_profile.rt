@@ -5,19 +5,10 @@ ghost use Rattle.cov_table.specs.Unit.{unit_entry};
 ghost use Rattle.cov_report.specs.TextProfile.{place_text, unit_line, kept_units, text_profile_of};
 
 use crate::filter::Filter;
+use crate::number::push_number;
 use cov_outside::NoMemory;
 use cov_table::{Table, Unit, Units};
-use itoa::Buffer;
 use std::alloc::Global;
-
-/// Appends a number in decimal digits.
-fn push_number(text: &mut Vec<u8>, n: u32) -> Result<(), NoMemory>
-    ensures { OnOk result (text.new.items ≡ text.old.items ++ decimal n) }
-{
-    let mut buffer = Buffer::new();
-    text.extend_from_slice(buffer.format(n).as_bytes())?;
-    Ok(())
-}
 
 /// Appends a line and a column with a dot between them.
 fn push_place(text: &mut Vec<u8>, line: u32, column: u32) -> Result<(), NoMemory>

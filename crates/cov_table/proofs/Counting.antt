@@ -1,7 +1,6 @@
 -- What count a key has after many counts, in whatever order they come.
 use Rattle.std.proofs.Common.{◌≡◌, ℕ, ◌+◌, min, Bool, true, false, cond, ◌||◌, List, [], ◌∷◌, ◌++◌, Option, Some, refl, sym, ap, ◌∙◌, arith, zero-add}
-use Rattle.std.specs.Prelude.{unwrap_or, sum_by}
-use Rattle.std.specs.List.{list_any}
+use Rattle.std.specs.Prelude.{unwrap_or}
 use Rattle.std.specs.List.Sorted.{IsPermutation}
 use Rattle.std.proofs.lemmas.List.Sums.{sum_by-cons}
 use Rattle.std.proofs.lemmas.List.Sorted.{sum_by-IsPermutation, list_any-IsPermutation, IsPermutation-append_comm}
@@ -10,7 +9,7 @@ use Rattle.std.specs.Cmp.{IsTotalOrder}
 use Rattle.std.specs.Ordering.{is_eq, eq_by_cmp}
 use Rattle.std.specs.declared.cmp.Ordering.{Ordering}
 use Rattle.std.specs.declared.cmp.Ordering.TheVariants.{Less, Equal, Greater}
-use Rattle.cov_table.specs.Counts.{count_of, with_count, with_counts}
+use Rattle.cov_table.specs.Counts.{count_of, with_count, with_counts, has, total}
 
 abbrev pub sum_up_to : ℕ → ℕ → ℕ → ℕ
 sum_up_to most a b = min (a + b) most
@@ -21,19 +20,13 @@ tied Equal p = refl
 tied Greater p = cc
 
 module _ {K : Type 0} (R : K → K → Ordering) where
-  abbrev pub has : K → List (K × ℕ) → Bool
-  has q es = list_any (λ e. eq_by_cmp R q e.0) es
-
-  abbrev pub total : K → List (K × ℕ) → ℕ
-  total q es = sum_by (λ e. cond (eq_by_cmp R q e.0) e.1 0) es
-
-  absent : (q : K) (es : List (K × ℕ)) → has q es ≡ false → total q es ≡ 0
+  pub absent : (q : K) (es : List (K × ℕ)) → has R q es ≡ false → total R q es ≡ 0
   absent q [] h = refl
   absent q (e ∷ es) h =
       sum_by-cons (λ (e : K × ℕ). cond (eq_by_cmp R q e.0) e.1 0) e es
-      ∙ elim (eq_by_cmp R q e.0) as (λ b. (b || has q es) ≡ false → cond b e.1 0 + total q es ≡ 0) [
+      ∙ elim (eq_by_cmp R q e.0) as (λ b. (b || has R q es) ≡ false → cond b e.1 0 + total R q es ≡ 0) [
         | true ↦ λ i. cc
-        | false ↦ λ i. zero-add (total q es) ∙ absent q es i
+        | false ↦ λ i. zero-add (total R q es) ∙ absent q es i
       ] h
 
 module _ {K : Type 0} {R : K → K → Ordering} where

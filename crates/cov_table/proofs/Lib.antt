@@ -8,3 +8,5 @@ pub mod Walk
 pub mod Settling
 pub mod PackageSettling
 pub mod Tables
+pub mod Renumbering
+pub mod Merging

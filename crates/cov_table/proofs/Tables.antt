@@ -12,12 +12,13 @@ use Rattle.cov_table.specs.declared.row.PackageRow.{PackageRow}
 use Rattle.cov_table.specs.Key.{Key}
 use Rattle.cov_table.specs.Counts.{with_counts}
 use Rattle.cov_table.specs.Firsts.{with_firsts}
-use Rattle.cov_table.specs.Coverage.{Counts, extended, counts_of, package_of}
+use Rattle.cov_table.specs.Coverage.{merged, Coverage, Counts, extended, counts_of, package_of}
 use Rattle.cov_table.specs.Refusal.{Agree}
 use Rattle.cov_table.specs.Rows.{row_entry, package_entry, Extends, AllWithin, AllPackagesWithin, counts_up_to, greatest_of, packages_in, Adds, AddsPackages, Means, IsTable, coverage_of}
 use Rattle.cov_table.proofs.Keys.{key_total, key_same, text_same}
 use Rattle.cov_table.proofs.Counting.{sum_up_to, counts_added}
 use Rattle.cov_table.proofs.Firsts.{firsts_added}
+use Rattle.cov_table.proofs.Merging.{counts_entries, firsts_entries}
 use Rattle.cov_table.proofs.Pool.{within_kept, within_append, entries_kept, packages_within_kept, packages_within_append, packages_kept}
 
 -- ---- rows that were gathered with texts s to t, and packages with texts t to u
@@ -89,3 +90,14 @@ module _ (mode : Option Mode) (texts : List (List ℕ)) (rows rows' : List Row) 
 
   pub same_coverage : rows' ≡ rows → packages' ≡ packages → coverage_of mode texts rows' packages' ≡ coverage_of mode texts rows packages
   same_coverage p q = λ i. coverage_of mode texts (p i) (q i)
+
+-- another table's rows and its maps add the same
+pub merged_rows : (table : Coverage) (mode : Mode) (texts : List (List ℕ)) (rows : List Row) (packages : List PackageRow) (other : Coverage) → coverage_of (Some mode) texts rows packages ≡ other
+    → extended table mode (map (row_entry texts) rows) (map (package_entry texts) packages) ≡ merged table other
+merged_rows table mode texts rows packages other e =
+    (λ i. record {
+      mode = Some mode;
+      counts = sym (counts_entries key_total (greatest mode) (map (row_entry texts) rows) key_same table.counts) i;
+      packages = sym (firsts_entries nat_list_cmp_total text_same table.packages (map (package_entry texts) packages)) i;
+    })
+    ∙ ap (merged table) e

@@ -10,7 +10,7 @@ use Rattle.std.specs.declared.cmp.Ordering.TheVariants.{Less, Equal, Greater}
 use Rattle.cov_table.specs.Counts.{count_of, with_counts}
 use Rattle.cov_table.proofs.Counting.{sum_up_to}
 
-both : (a b : Bool) → T (a && b) → T a × T b
+pub both : (a b : Bool) → T (a && b) → T a × T b
 both true b p = (tt, p)
 both false b p = absurd p
 
@@ -18,7 +18,7 @@ pair : (a b : Bool) → T a → T b → T (a && b)
 pair true b p q = q
 pair false b p q = absurd p
 
-less : (o : Ordering) → T (is_lt o) → o ≡ Less
+pub less : (o : Ordering) → T (is_lt o) → o ≡ Less
 less Less p = refl
 less Equal p = absurd p
 less Greater p = absurd p

@@ -64,3 +64,11 @@ extended table mode counts packages = record { mode = Some mode; counts = with_c
 -- with the counts of a pod, which has one for each of its units
 abbrev pub with_pod : Coverage → DecodedPod → Coverage
 with_pod table pod = extended table pod.file.meta.mode (counts_of pod.file.meta.packages pod.counts) (map package_of pod.file.meta.packages)
+
+-- with the counts and packages of another table, whose mode comes first; an empty one adds nothing
+abbrev pub merged_in : Option Mode → Coverage → Coverage → Coverage
+merged_in None table other = table
+merged_in (Some mode) table other = extended table mode (finmap.entries other.counts) (finmap.entries other.packages)
+
+abbrev pub merged : Coverage → Coverage → Coverage
+merged table other = merged_in other.mode table other

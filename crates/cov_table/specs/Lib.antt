@@ -5,3 +5,5 @@ pub mod Coverage
 pub mod Refusal
 pub mod Rows
 pub mod Unit
+pub mod Laws
+pub mod Package

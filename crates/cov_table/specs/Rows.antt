@@ -101,3 +101,14 @@ pub record IsTable (mode : Option Mode) (texts : List (List ℕ)) (rows : List R
 
 abbrev pub coverage_of : Option Mode → List (List ℕ) → List Row → List PackageRow → Coverage
 coverage_of mode texts rows packages = record { mode = mode; counts = counts_up_to (greatest_of mode) texts rows; packages = packages_in texts packages }
+
+-- every text of a pool has its number in another
+pub record NamesAll (texts : List (List ℕ)) (numbers : List ℕ) (from : List (List ℕ)) : Type 0 where
+  pub whole : length numbers ≡ length from
+  pub names : (i : ℕ) → i < length from → Names texts (slice_index_or numbers i 0) (text_at from i)
+
+abbrev pub renumbered_row : List ℕ → Row → Row
+renumbered_row numbers r = record r { package_path = slice_index_or numbers r.package_path 0; file = slice_index_or numbers r.file 0; function = slice_index_or numbers r.function 0 }
+
+abbrev pub renumbered_package : List ℕ → PackageRow → PackageRow
+renumbered_package numbers r = record { path = slice_index_or numbers r.path 0; name = slice_index_or numbers r.name 0; «module» = slice_index_or numbers r.module 0 }

@@ -2,14 +2,19 @@
 #![tactic(auto)]
 
 mod gather;
+mod laws;
 mod order;
 mod package_order;
+mod packages;
 mod refusal;
+mod renumber;
 mod row;
 mod settle;
 mod table;
 mod units;
 
+pub use laws::counts_and_packages_by_key;
+pub use packages::{Package, Packages};
 pub use refusal::TableRefusal;
 pub use table::Table;
 pub use units::{Unit, Units};

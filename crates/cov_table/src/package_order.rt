@@ -1,5 +1,5 @@
 //! Sorting packages by their paths and keeping the first of each.
-ghost use Rattle.std.specs.Prelude.{◌≡◌, ℕ, map, OnOk, IfOk};
+ghost use Rattle.std.specs.Prelude.{◌≡◌, ◌≤◌, ◌/◌, ℕ, map, OnOk, IfOk, vec_len};
 ghost use Rattle.std.specs.List.Sorted.{IsSortedByKey};
 ghost use Rattle.std.specs.FinMap as finmap;
 ghost use Rattle.cov_table.specs.Key.{text_cmp};
@@ -57,6 +57,7 @@ pub fn settle_packages(
 ) -> Result<(), NoMemory>
     ensures same { packages_in texts.now rows.new.items ≡ packages_in texts.now rows.old.items }
     ensures within { (n : ℕ) → AllPackagesWithin n rows.old.items → AllPackagesWithin n rows.new.items }
+    ensures few { OnOk result (vec_len rows.new / 2 ≤ settled.new) }
 {
     if rows.len() / 2 <= *settled {
         return Ok(());

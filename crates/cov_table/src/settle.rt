@@ -1,5 +1,5 @@
 //! Sorting rows by their units and combining those of one unit.
-ghost use Rattle.std.specs.Prelude.{◌≡◌, ℕ, map, OnOk, IfOk};
+ghost use Rattle.std.specs.Prelude.{◌≡◌, ◌≤◌, ◌/◌, ℕ, map, OnOk, IfOk, vec_len};
 ghost use Rattle.std.specs.List.Sorted.{IsSortedByKey};
 ghost use Rattle.std.specs.FinMap as finmap;
 ghost use Rattle.cov_outside.specs.Mode.{combined, greatest};
@@ -72,6 +72,7 @@ pub fn settle(
 ) -> Result<(), NoMemory>
     ensures same { counts_up_to (greatest mode) texts.now rows.new.items ≡ counts_up_to (greatest mode) texts.now rows.old.items }
     ensures within { (n : ℕ) → AllWithin n rows.old.items → AllWithin n rows.new.items }
+    ensures few { OnOk result (vec_len rows.new / 2 ≤ settled.new) }
 {
     if rows.len() / 2 <= *settled {
         return Ok(());

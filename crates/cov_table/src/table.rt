@@ -1,12 +1,14 @@
 //! Tables.
 ghost use Rattle.std.specs.Prelude.{◌≡◌, ◌++◌, Some, IfOk, OnErr, OnOk};
 ghost use Rattle.std.specs.FinMap as finmap;
-ghost use Rattle.cov_table.specs.Coverage.{empty, with_pod};
+ghost use Rattle.cov_table.specs.Coverage.{empty, with_pod, merged};
 ghost use Rattle.cov_table.specs.Refusal.{ClashesExactly};
 
 use crate::gather::{Gathered, gather_pod};
-use crate::package_order::settle_packages;
+use crate::package_order::{first_packages, settle_packages, sort_packages};
+use crate::packages::Packages;
 use crate::refusal::{TableRefusal, agree};
+use crate::renumber::gather_rows;
 use crate::row::{PackageRow, Row};
 use crate::settle::{combine, settle, sort};
 use crate::units::Units;
@@ -104,6 +106,29 @@ impl Table {
         Ok(())
     }
 
+    /// Adds the counts and packages of another table. After a refusal the table is as before.
+    pub fn merge(&mut self, other: &Table) -> Result<(), TableRefusal>
+        ensures ok { OnOk result (self.new ≡ merged self.old other.now) }
+        ensures clash { ClashesExactly result self.old.mode other.now.mode }
+        ensures err { OnErr result (self.new ≡ self.old) }
+    {
+        agree(self.mode, other.mode)?;
+        let Some(mode) = other.mode else {
+            return Ok(());
+        };
+        self.settle()?;
+        let more = gather_rows(
+            self.alloc,
+            &mut self.texts,
+            &other.texts,
+            &other.rows,
+            &other.packages,
+        )?;
+        append(&mut self.rows, &mut self.packages, more)?;
+        self.mode = Some(mode);
+        Ok(())
+    }
+
     /// Combines the rows where those added since the last time outnumber the others.
     fn settle(&mut self) -> Result<(), NoMemory>
         ensures { self.new ≡ self.old }
@@ -136,5 +161,15 @@ impl Table {
         let mut rows = Vec::from_slice(alloc, &self.rows)?;
         sort(&self.texts, &mut rows)?;
         Ok(Units::new(&self.texts, combine(alloc, mode, &self.texts, &rows)?))
+    }
+
+    /// The packages in the order of their paths.
+    pub fn packages(&self, alloc: Global) -> Result<Packages<'_>, NoMemory>
+        ensures { IfOk result (λ packages. packages ≡ finmap.entries self.now.packages) }
+    {
+        let mut rows = Vec::from_slice(alloc, &self.packages)?;
+        sort_packages(&self.texts, &mut rows)?;
+        let firsts = first_packages(alloc, &self.texts, &rows)?;
+        Ok(Packages::new(&self.texts, firsts))
     }
 }

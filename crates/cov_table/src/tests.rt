@@ -1,0 +1,190 @@
+use super::*;
+use cov_meta::{Meta, MetaFile, MetaFunction, MetaPackage, MetaUnit, Place2};
+use cov_outside::{Mode, NoMemory, Sequence, Text};
+use cov_pods::{DecodedPod, Pod};
+use std::alloc::Global;
+use std::test::Fail;
+
+/// A function of `m/main.go`, with the lines and counts of its units.
+struct Lines {
+    function: &'static [u8],
+    units: &'static [(u32, u32)],
+}
+
+fn unit(line: u32) -> MetaUnit {
+    MetaUnit {
+        start: Place2 { line, column: 13 },
+        end: Place2 { line, column: 20 },
+        statements: 1,
+    }
+}
+
+fn function(alloc: Global, lines: &Lines) -> Result<(MetaFunction, Sequence<u32>), NoMemory> {
+    let mut units = Sequence::new(alloc);
+    let mut counts = Sequence::new(alloc);
+    for (line, count) in lines.units {
+        units.push(unit(*line))?;
+        counts.push(*count)?;
+    }
+    let function = MetaFunction {
+        name: Text::of(alloc, lines.function)?,
+        file: Text::of(alloc, b"m/main.go")?,
+        literal: false,
+        units,
+    };
+    Ok((function, counts))
+}
+
+/// A pod with one package.
+fn pod(
+    alloc: Global,
+    mode: Mode,
+    package_path: &[u8],
+    functions: &[Lines],
+) -> Result<DecodedPod, NoMemory> {
+    let mut package = MetaPackage {
+        name: Text::of(alloc, b"main")?,
+        path: Text::of(alloc, package_path)?,
+        module: Text::of(alloc, b"m")?,
+        functions: Sequence::new(alloc),
+    };
+    let mut by_function = Sequence::new(alloc);
+    for lines in functions {
+        let (function, counts) = function(alloc, lines)?;
+        package.functions.push(function)?;
+        by_function.push(counts)?;
+    }
+    let mut packages = Sequence::new(alloc);
+    packages.push(package)?;
+    let mut counts = Sequence::new(alloc);
+    counts.push(by_function)?;
+    Ok(DecodedPod {
+        pod: Pod {
+            hash: Text::of(alloc, b"")?,
+            meta: Text::of(alloc, b"")?,
+            counters: Sequence::new(alloc),
+        },
+        bytes: Sequence::new(alloc),
+        file: MetaFile {
+            hash: [0; 16],
+            meta: Meta { mode, packages },
+        },
+        counts,
+        heads: Sequence::new(alloc),
+    })
+}
+
+/// A unit as package, function, line and count.
+type Shown = (&'static [u8], &'static [u8], u32, u32);
+
+fn is_shown(unit: &Unit<'_>, want: &Shown) -> bool {
+    let (package_path, function, line, count) = want;
+    unit.package_path == *package_path
+        && unit.function == *function
+        && unit.start_line == *line
+        && unit.count == *count
+}
+
+fn shows(alloc: Global, table: &Table, want: &[Shown]) -> Result<bool, NoMemory> {
+    let units = table.units(alloc)?;
+    for (i, want) in want.iter().enumerate() {
+        match units.get(i) {
+            Some(unit) if is_shown(&unit, want) => {}
+            _ => return Ok(false),
+        }
+    }
+    Ok(units.len() == want.len())
+}
+
+/// Pods that are added one after the other, how many of them are refused, and the table then.
+struct Case {
+    pods: &'static [(Mode, &'static [u8], &'static [Lines])],
+    refused: usize,
+    want: &'static [Shown],
+}
+
+const MAIN: &[Lines] = &[
+    Lines {
+        function: b"main",
+        units: &[(9, 1), (5, 1)],
+    },
+    Lines {
+        function: b"idle",
+        units: &[(7, 0)],
+    },
+];
+
+const MANY: &[Lines] = &[Lines {
+    function: b"main",
+    units: &[(5, 4294967295)],
+}];
+
+const CASES: [Case; 4] = [
+    Case {
+        pods: &[],
+        refused: 0,
+        want: &[],
+    },
+    Case {
+        pods: &[
+            (Mode::Count, b"m", MAIN),
+            (Mode::Count, b"m", MAIN),
+            (Mode::Count, b"m", MAIN),
+            (Mode::Set, b"m", MAIN),
+        ],
+        refused: 1,
+        want: &[
+            (b"m", b"main", 5, 3),
+            (b"m", b"idle", 7, 0),
+            (b"m", b"main", 9, 3),
+        ],
+    },
+    Case {
+        pods: &[
+            (Mode::Atomic, b"m", MAIN),
+            (Mode::Atomic, b"m", MANY),
+            (Mode::Atomic, b"a", MANY),
+        ],
+        refused: 0,
+        want: &[
+            (b"a", b"main", 5, 4294967295),
+            (b"m", b"main", 5, 4294967295),
+            (b"m", b"idle", 7, 0),
+            (b"m", b"main", 9, 1),
+        ],
+    },
+    Case {
+        pods: &[(Mode::Set, b"m", MANY), (Mode::Set, b"m", MANY)],
+        refused: 0,
+        want: &[(b"m", b"main", 5, 1)],
+    },
+];
+
+/// The table of a case's pods, and how many were refused for their mode.
+fn table_of(alloc: Global, case: &Case) -> Result<(Table, usize), NoMemory> {
+    let mut table = Table::new(alloc);
+    let mut refused = 0usize;
+    for (mode, package_path, functions) in case.pods {
+        let pod = pod(alloc, *mode, package_path, functions)?;
+        if table.add_pod(&pod).is_err() {
+            refused = refused.saturating_add(1);
+        }
+    }
+    Ok((table, refused))
+}
+
+#[test]
+fn combines_pods(rt: HostRuntime) -> Result<(), Fail> {
+    for (i, case) in CASES.iter().enumerate() {
+        let (table, refused) = table_of(rt.alloc(), case)?;
+        assert_eq!(rt; refused, case.refused, "refusals of case {i}");
+        assert!(rt; shows(rt.alloc(), &table, case.want)?, "units of case {i}");
+        let mut whole = Table::new(rt.alloc());
+        assert_eq!(rt; whole.merge(&table), Ok(()));
+        assert!(rt;
+            shows(rt.alloc(), &whole, case.want)?,
+            "merged units of case {i}"
+        );
+    }
+    Ok(())
+}
