@@ -1,2 +1,3 @@
 pub mod OneDir
 pub mod Pieces
+pub mod Told

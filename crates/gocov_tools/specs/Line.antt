@@ -42,7 +42,7 @@ Spoils status result before now = ((result ≡ status) × (now ≡ before)) ⊎ 
 
 -- what the answer is after its line was written, or could not be; want of memory stays what it is
 abbrev pub Finishes : Status → Status → Count → Count → Type 0
-Finishes (statuses.Done n) result before now = Spoils (statuses.Done n) result before now
+Finishes (statuses.Done n) result before now = (result ≡ statuses.Done n) × (now ≡ before)
 Finishes statuses.NotBuilt result before now = Spoils statuses.NotBuilt result before now
 Finishes (statuses.Missing path) result before now = Spoils (statuses.Missing path) result before now
 Finishes (statuses.Data path offset kind) result before now = Spoils (statuses.Data path offset kind) result before now

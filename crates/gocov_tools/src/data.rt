@@ -1,8 +1,10 @@
 //! `covdata`.
-ghost use Rattle.std.specs.Prelude.{◌≡◌, All, IfSome};
+ghost use Rattle.std.specs.Prelude.{◌≡◌, All, IfSome, Ok};
 ghost use Rattle.std.specs.Option.{option_copied};
 ghost use Rattle.std.specs.Str.{IsUtf8};
+ghost use Rattle.gocov_tools.specs.Command.{put_of, put_profile_of};
 ghost use Rattle.gocov_tools.specs.Outside.{Causes, KeepsTree};
+ghost use Rattle.gocov_tools.specs.Status.{Leaves};
 ghost use Rattle.gocov_tools.specs.Profile as spec;
 ghost use Rattle.gocov_tools.specs.Refusals.{answer_of};
 
@@ -30,6 +32,7 @@ fn status_of(refusal: Refusal) -> Status
 /// Puts a file, the last thing that a command does.
 fn put_last<F: Files>(files: &mut F, path: &Text, bytes: &[u8]) -> Status
     requires { IsUtf8 path.now }
+    ensures told { IfSome (F.tree files.old) (λ t. Leaves result (Ok (path.now, bytes.now)) t (F.tree files.new)) }
     ensures causes { Causes result (F.read_faults files.old) (F.read_faults files.new) (F.put_faults files.old) (F.put_faults files.new) }
     ensures kept { KeepsTree result (F.tree files.old) (F.tree files.new) }
 {
@@ -53,9 +56,11 @@ fn only_dir(dirs: &[Text]) -> Option<&Text>
 }
 
 /// Puts the text profile of a directory.
+#[tactic(auto, unfolding(crate::specs::Command::put_profile_of))]
 fn put_profile<F: Files>(alloc: Global, files: &mut F, dir: &Text, path: &Text) -> Status
     requires dir { IsUtf8 dir.now }
     requires path { IsUtf8 path.now }
+    ensures told { IfSome (F.tree files.old) (λ t. Leaves result (put_profile_of path.now dir.now t) t (F.tree files.new)) }
     ensures causes { Causes result (F.read_faults files.old) (F.read_faults files.new) (F.put_faults files.old) (F.put_faults files.new) }
     ensures kept { KeepsTree result (F.tree files.old) (F.tree files.new) }
 {
@@ -69,6 +74,7 @@ fn put_profile<F: Files>(alloc: Global, files: &mut F, dir: &Text, path: &Text) 
 }
 
 /// Does what a command of `covdata` says with the pods of its directories.
+#[tactic(auto, unfolding(crate::specs::Command::put_of))]
 pub fn covdata<F: Files, O: Sink>(
     alloc: Global,
     args: &DataArgs,
@@ -76,6 +82,7 @@ pub fn covdata<F: Files, O: Sink>(
     out: &mut O,
     _stamp: Stamp,
 ) -> Status
+    ensures told { IfSome (F.tree files.old) (λ t. Leaves result (put_of args.now t) t (F.tree files.new)) }
     ensures causes { Causes result (F.read_faults files.old) (F.read_faults files.new) (F.put_faults files.old) (F.put_faults files.new) }
     ensures kept { KeepsTree result (F.tree files.old) (F.tree files.new) }
     ensures out { O.contents out.new ≡ O.contents out.old }

@@ -84,7 +84,7 @@ fn write_line<E: Sink>(err: &mut E, status: &Status) -> Result<(), FilesFault>
     ensures cause { Counts (E.faults err.old) (E.faults err.new) result }
 {
     match status {
-        Status::Done(_) => write_pieces(err, &[]),
+        Status::Done(_) => Ok(()),
         Status::NotBuilt => write_pieces(err, &[b"gocov: not built\n".as_slice()]),
         Status::Missing { path } => write_pieces(
             err,
@@ -108,6 +108,9 @@ pub fn finish<E: Sink>(err: &mut E, status: Status) -> Status
     ensures line { HasLine result (E.faults err.old) (E.faults err.new) (E.contents err.old) (E.contents err.new) }
     ensures part { HasPart (line_of status) (E.contents err.old) (E.contents err.new) }
 {
+    if let Status::Done(_) = status {
+        return status;
+    }
     match write_line(err, &status) {
         Ok(()) => status,
         Err(FilesFault::NoMemory) => Status::NoMemory,

@@ -1,8 +1,11 @@
 //! The text profile of a directory.
-ghost use Rattle.std.specs.Prelude.{◌≡◌, All, IfOk, IfSome};
+ghost use Rattle.std.specs.Prelude.{◌≡◌, All, IfOk, IfErr, IfSome, [], ◌∷◌};
 ghost use Rattle.std.specs.Option.{option_copied};
 ghost use Rattle.std.specs.Str.{IsUtf8};
 ghost use Rattle.cov_pods.specs.Paths.{HasTextPaths};
+ghost use Rattle.cov_outside.specs.Tree.{names_in};
+ghost use Rattle.cov_pods.specs.Pods.{pods_of};
+ghost use Rattle.gocov_tools.specs.Command.{profile, profile_of_pod, Gives, IsFaultOrMemory};
 ghost use Rattle.gocov_tools.specs.Outside.{CountsRead};
 ghost use Rattle.gocov_tools.specs.Profile as spec;
 
@@ -17,6 +20,8 @@ use std::alloc::Global;
 fn pods_in<F: Files>(alloc: Global, files: &mut F, dir: &Text) -> Result<Vec<Pod>, Refusal>
     requires { IsUtf8 dir.now }
     ensures utf8 { IfOk result (λ pods. All HasTextPaths pods.items) }
+    ensures told { IfSome (F.tree files.old) (λ t. IfOk result (λ pods. pods.items ≡ pods_of (record { dir = dir.now; names = names_in dir.now t } ∷ []))) }
+    ensures refused { IfErr result IsFaultOrMemory }
     ensures same { F.tree files.new ≡ F.tree files.old }
     ensures cause { CountsRead (F.read_faults files.old) (F.read_faults files.new) result }
     ensures puts { F.put_faults files.new ≡ F.put_faults files.old }
@@ -40,6 +45,7 @@ fn only_pod(pods: &[Pod]) -> Option<&Pod>
 }
 
 /// The text profile of a pod.
+#[tactic(auto, unfolding(crate::specs::Command::profile_of_pod))]
 fn profile_of_pod<F: Files>(
     alloc: Global,
     files: &mut F,
@@ -47,6 +53,7 @@ fn profile_of_pod<F: Files>(
     filter: &Filter,
 ) -> Result<Vec<u8>, Refusal>
     requires { HasTextPaths pod.now }
+    ensures told { IfSome (F.tree files.old) (λ t. Gives (λ v. v.items) result (profile_of_pod filter.now.patterns pod.now t)) }
     ensures same { F.tree files.new ≡ F.tree files.old }
     ensures cause { CountsRead (F.read_faults files.old) (F.read_faults files.new) result }
     ensures puts { F.put_faults files.new ≡ F.put_faults files.old }
@@ -58,6 +65,7 @@ fn profile_of_pod<F: Files>(
 }
 
 /// The text profile of a directory that holds one pod, of one meta file and one counter file.
+#[tactic(auto, unfolding(crate::specs::Command::profile))]
 pub fn profile_of<F: Files>(
     alloc: Global,
     files: &mut F,
@@ -65,6 +73,7 @@ pub fn profile_of<F: Files>(
     filter: &Filter,
 ) -> Result<Vec<u8>, Refusal>
     requires { IsUtf8 dir.now }
+    ensures told { IfSome (F.tree files.old) (λ t. Gives (λ v. v.items) result (profile filter.now.patterns dir.now t)) }
     ensures same { F.tree files.new ≡ F.tree files.old }
     ensures cause { CountsRead (F.read_faults files.old) (F.read_faults files.new) result }
     ensures puts { F.put_faults files.new ≡ F.put_faults files.old }

@@ -1,5 +1,7 @@
 //! The top call.
-ghost use Rattle.std.specs.Prelude.{◌≡◌};
+ghost use Rattle.std.specs.Prelude.{◌≡◌, IfSome, map};
+ghost use Rattle.gocov_tools.specs.Command.{command};
+ghost use Rattle.gocov_tools.specs.Status.{Leaves, TopLeaves};
 ghost use Rattle.gocov_tools.specs.Outside.{Causes, KeepsTree, TopCauses};
 ghost use Rattle.gocov_tools.specs.Line.{HasLine};
 
@@ -14,6 +16,7 @@ use std::sync::Wait;
 use std::thread::Threads;
 
 /// Does what the words mean.
+#[tactic(auto, unfolding(crate::specs::Command::command))]
 fn answer<F: Files, O: Sink>(
     alloc: Global,
     words: &[&str],
@@ -21,6 +24,7 @@ fn answer<F: Files, O: Sink>(
     out: &mut O,
     stamp: Stamp,
 ) -> Status
+    ensures told { IfSome (F.tree files.old) (λ t. Leaves result (command (map (λ w. w.now) words.now) t) t (F.tree files.new)) }
     ensures causes { Causes result (F.read_faults files.old) (F.read_faults files.new) (F.put_faults files.old) (F.put_faults files.new) }
     ensures kept { KeepsTree result (F.tree files.old) (F.tree files.new) }
     ensures out { O.contents out.new ≡ O.contents out.old }
@@ -45,6 +49,7 @@ pub fn gocov<R: Threads + Wait + Sync, F: Files, O: Sink, E: Sink, G: Gate>(
     _gate: &G,
     journal: &mut Journal,
 ) -> Status
+    ensures told { IfSome (F.tree files.old) (λ t. TopLeaves result (command (map (λ w. w.now) words.now) t) t (F.tree files.new)) }
     ensures causes { TopCauses result (F.read_faults files.old) (F.read_faults files.new) (F.put_faults files.old) (F.put_faults files.new) (E.faults err.old) (E.faults err.new) }
     ensures kept { KeepsTree result (F.tree files.old) (F.tree files.new) }
     ensures line { HasLine result (E.faults err.old) (E.faults err.new) (E.contents err.old) (E.contents err.new) }

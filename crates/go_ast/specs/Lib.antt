@@ -1,0 +1,10 @@
+pub mod Characters
+pub mod Faults
+pub mod Kinds
+pub mod Literals
+pub mod Numbers
+pub mod Pieces
+pub mod Places
+pub mod Starts
+pub mod Tokens
+pub mod Words
