@@ -34,3 +34,14 @@ TopLeaves statuses.WriteFault (Ok put) old new = SameElsewhere put.0 (Some old) 
 TopLeaves statuses.WriteFault (Err e) old new = new ≡ Some old
 TopLeaves statuses.NoMemory (Ok put) old new = SameElsewhere put.0 (Some old) new
 TopLeaves statuses.NoMemory (Err e) old new = new ≡ Some old
+
+-- the whole work was done, or memory ran out
+abbrev pub IsDone : Status → Type 0
+IsDone (statuses.Done n) = Unit {0}
+IsDone statuses.NotBuilt = ⊥
+IsDone (statuses.Missing path) = ⊥
+IsDone (statuses.Data path offset kind) = ⊥
+IsDone (statuses.InputLimit w) = ⊥
+IsDone statuses.ReadFault = ⊥
+IsDone statuses.WriteFault = ⊥
+IsDone statuses.NoMemory = Unit {0}

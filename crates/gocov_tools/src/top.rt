@@ -1,9 +1,11 @@
 //! The top call.
-ghost use Rattle.std.specs.Prelude.{◌≡◌, IfSome, map};
+ghost use Rattle.std.specs.Prelude.{◌≡◌, IfSome, IsOk, map};
 ghost use Rattle.gocov_tools.specs.Command.{command};
-ghost use Rattle.gocov_tools.specs.Status.{Leaves, TopLeaves};
+ghost use Rattle.gocov_tools.specs.Status.{Leaves, TopLeaves, IsDone};
 ghost use Rattle.gocov_tools.specs.Outside.{Causes, KeepsTree, TopCauses};
-ghost use Rattle.gocov_tools.specs.Line.{HasLine};
+ghost use Rattle.gocov_tools.specs.Line.{HasLine, HasPart, line_of};
+ghost use Rattle.cov_outside.specs.Faults.{Rose};
+ghost use Rattle.gocov_tools.specs.declared.status.Status.{Status};
 
 use crate::data::covdata;
 use crate::journal::Journal;
@@ -50,9 +52,11 @@ pub fn gocov<R: Threads + Wait + Sync, F: Files, O: Sink, E: Sink, G: Gate>(
     journal: &mut Journal,
 ) -> Status
     ensures told { IfSome (F.tree files.old) (λ t. TopLeaves result (command (map (λ w. w.now) words.now) t) t (F.tree files.new)) }
+    ensures complete { IfSome (F.tree files.old) (λ t. IsOk (command (map (λ w. w.now) words.now) t) → ¬ Rose (F.read_faults files.old) (F.read_faults files.new) → ¬ Rose (F.put_faults files.old) (F.put_faults files.new) → ¬ Rose (E.faults err.old) (E.faults err.new) → IsDone result) }
     ensures causes { TopCauses result (F.read_faults files.old) (F.read_faults files.new) (F.put_faults files.old) (F.put_faults files.new) (E.faults err.old) (E.faults err.new) }
     ensures kept { KeepsTree result (F.tree files.old) (F.tree files.new) }
     ensures line { HasLine result (E.faults err.old) (E.faults err.new) (E.contents err.old) (E.contents err.new) }
+    ensures part { (status : Status) × HasPart (line_of status) (E.contents err.old) (E.contents err.new) }
     ensures out { O.contents out.new ≡ O.contents out.old }
     ensures outs { O.faults out.new ≡ O.faults out.old }
     ensures journal { journal.new ≡ journal.old }
