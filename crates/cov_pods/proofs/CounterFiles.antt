@@ -114,6 +114,7 @@ end_fails o now last file given path head seen stage at n f e counts counted sam
   where
     good : same_hash path file.hash head.hash ≡ Ok tt
     good = subst (λ (h : Head). same_hash path file.hash h.hash ≡ Ok tt) heads hash
+
     ending : (t : Tree) → Starts path head at t → Adds file.meta path head counts counted head.entries at (offset_of stage) t → Finishes stage (Err f) (finmap.get t path) → IsFaultOf e (counters_in file path (finmap.get t path))
     ending t s a h =
         let fault = counter_told path f e (end_of (offset_of stage) (finmap.get t path)) b (end_fault n stage f (finmap.get t path) before h) in
@@ -130,6 +131,7 @@ file_added o now last file given path head seen stage at n counts counted same a
   where
     good : same_hash path file.hash head.hash ≡ Ok tt
     good = subst (λ (h : Head). same_hash path file.hash h.hash ≡ Ok tt) heads hash
+
     ending : (t : Tree) → Starts path head at t → Adds file.meta path head counts counted head.entries at (offset_of stage) t → Finishes stage (Ok tt) (finmap.get t path)
         → (y : Head × List Entry) × (counters_in file path (finmap.get t path) ≡ Ok y) × ((y.0 ≡ seen) × Grows file.meta counts counted y.1)
     ending t s a h =

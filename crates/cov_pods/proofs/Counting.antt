@@ -76,7 +76,7 @@ place_of meta e h =
     let one = found_is (slice_get meta.packages e.«package») _ _ tt h in
     let two = found_is (slice_get (one.0).functions e.function) _ _ tt one.2 in
     let test = passes (eqb (length e.counts) (length (two.0).units)) _ two.2 in
-    record { inside = one.0; function = two.0; inside_is = one.1; function_is = two.1; units_are = eqb-true _ _ test; }
+    record { inside = one.0; function = two.0; inside_is = one.1; function_is = two.1; units_are = eqb-true _ _ test }
 
 -- the counts of a package and of a function after some entries
 package_at : (meta : Meta) (seen : List Entry) (e : Entry) (at : Place meta e) → slice_get (pod_counts meta seen) e.«package» ≡ Some (package_counts meta.mode seen (e.«package», at.inside))
@@ -204,7 +204,7 @@ entry_added meta seen e counts open_counts new gap functions open_functions new_
     let at = place_of meta e fit in
     let sums_is = sums_are meta.mode seen e at.function units sums (units_are meta seen e counts functions units at is got got_units) same each in
     let functions_is : new_functions ≡ package_counts meta.mode (seen ++ e ∷ []) (e.«package», at.inside) =
-        put ∙ ap (λ (fs : List (List ℕ)). set fs e.function sums) taken_units ∙ set-set functions e.function no_units sums
-        ∙ functions_set meta.mode seen e at.inside at.function functions sums at.function_is (functions_are meta seen e counts functions at is got) sums_is in
+    put ∙ ap (λ (fs : List (List ℕ)). set fs e.function sums) taken_units ∙ set-set functions e.function no_units sums
+    ∙ functions_set meta.mode seen e at.inside at.function functions sums at.function_is (functions_are meta seen e counts functions at is got) sums_is in
     put_all ∙ ap (λ (cs : List (List (List ℕ))). set cs e.«package» new_functions) taken ∙ set-set counts e.«package» gap new_functions
     ∙ packages_set meta seen e at.inside counts new_functions at.inside_is is functions_is

@@ -116,9 +116,11 @@ entries_more o now meta path head here counts counted new n i start at next same
   where
     more : (t : Tree) → SoFar meta path head counts counted n i start at t → Next meta path counted new at next head t → SoFar meta path head counts new n (i + 1) start next t
     more t p q =
-        let read : step meta path head t at ≡ Ok (q.0.0, next) = subst (λ (m : ℕ). step meta path head t at ≡ Ok (q.0.0, m)) q.2.0 q.1 in
-        (p.0 ++ q.0.0 ∷ [], goes_on (step meta path head t) p.0 n i at q.0.0 next _ lt read p.1,
-        λ seen is. subst (λ (es : List Entry). new ≡ pod_counts meta es) (append_assoc seen p.0 (q.0.0 ∷ [])) (q.2.1 (seen ++ p.0) (p.2 seen is)))
+        let read : step meta path head t at ≡ Ok (q.0.0, next) = subst (λ (m : ℕ). step meta path head t at ≡ Ok (q.0.0, m)) q.2.0 q.1 in (
+          p.0 ++ q.0.0 ∷ [],
+          goes_on (step meta path head t) p.0 n i at q.0.0 next _ lt read p.1,
+          λ seen is. subst (λ (es : List Entry). new ≡ pod_counts meta es) (append_assoc seen p.0 (q.0.0 ∷ [])) (q.2.1 (seen ++ p.0) (p.2 seen is)),
+        )
 
 pub entries_done : (o : Option Tree) (meta : Meta) (path : List ℕ) (head : Head) (counts counted : List (List (List ℕ))) (n i start at : ℕ) → n ≤ i
     → IfSome o (SoFar meta path head counts counted n i start at)

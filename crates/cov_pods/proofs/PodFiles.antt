@@ -79,16 +79,16 @@ files_more o now file counts counted new heads all head paths i path same lt is 
     more t p q =
         let read = first_read file t path (drop (i + 1) paths) q.0 q.1 in
         let left : with_front p.0 (all_counters file t (drop i paths)) ≡ with_front (p.0 ++ q.0 ∷ []) (all_counters file t (drop (i + 1) paths)) =
-            ap (λ (ps : List (List ℕ)). with_front p.0 (all_counters file t ps)) (next_path paths i path lt is) ∙ ap (with_front p.0) read ∙ regroup p.0 q.0 (all_counters file t (drop (i + 1) paths)) in
+        ap (λ (ps : List (List ℕ)). with_front p.0 (all_counters file t ps)) (next_path paths i path lt is) ∙ ap (with_front p.0) read ∙ regroup p.0 q.0 (all_counters file t (drop (i + 1) paths)) in
         let heads_are : all ≡ map (λ (c : Head × List Entry). c.0) (p.0 ++ q.0 ∷ []) =
-            push ∙ ap (λ (hs : List Head). hs ++ head ∷ []) p.2.0 ∙ ap (λ (h : Head). map (λ (c : Head × List Entry). c.0) p.0 ++ h ∷ []) (sym q.2.0) ∙ sym (map-append (λ (c : Head × List Entry). c.0) p.0 (q.0 ∷ [])) in
+        push ∙ ap (λ (hs : List Head). hs ++ head ∷ []) p.2.0 ∙ ap (λ (h : Head). map (λ (c : Head × List Entry). c.0) p.0 ++ h ∷ []) (sym q.2.0) ∙ sym (map-append (λ (c : Head × List Entry). c.0) p.0 (q.0 ∷ [])) in
         (p.0 ++ q.0 ∷ [], sym left ∙ p.1, (heads_are, λ seen was. grown seen was))
       where
         grown : (seen : List Entry) → counts ≡ pod_counts file.meta seen → new ≡ pod_counts file.meta (seen ++ flat_map (λ (c : Head × List Entry). c.1) (p.0 ++ q.0 ∷ []))
         grown seen was =
             let both = q.2.1 (seen ++ flat_map (λ (c : Head × List Entry). c.1) p.0) (p.2.1 seen was) in
             let joined : flat_map (λ (c : Head × List Entry). c.1) p.0 ++ q.0.1 ≡ flat_map (λ (c : Head × List Entry). c.1) (p.0 ++ q.0 ∷ []) =
-                ap (λ (es : List Entry). flat_map (λ (c : Head × List Entry). c.1) p.0 ++ es) (sym (append-nil q.0.1)) ∙ sym (flat_map-append (λ (c : Head × List Entry). c.1) p.0 (q.0 ∷ [])) in
+            ap (λ (es : List Entry). flat_map (λ (c : Head × List Entry). c.1) p.0 ++ es) (sym (append-nil q.0.1)) ∙ sym (flat_map-append (λ (c : Head × List Entry). c.1) p.0 (q.0 ∷ [])) in
             both ∙ ap (pod_counts file.meta) (append_assoc seen (flat_map (λ (c : Head × List Entry). c.1) p.0) q.0.1 ∙ ap (λ (es : List Entry). seen ++ es) joined)
 
 pub files_done : (o : Option Tree) (file : MetaFile) (counts counted : List (List (List ℕ))) (heads : List Head) (paths : List (List ℕ)) (i : ℕ) → length paths ≤ i → IfSome o (SoFar file counts counted heads paths i)
@@ -98,7 +98,7 @@ files_done o file counts counted heads paths i le so_far = some_also _ _ o done 
     done : (t : Tree) → SoFar file counts counted heads paths i t → (y : List (Head × List Entry)) × (all_counters file t paths ≡ Ok y) × ((heads ≡ map (λ c. c.0) y) × Grows file.meta counts counted (flat_map (λ c. c.1) y))
     done t p =
         let end : with_front p.0 (all_counters file t (drop i paths)) ≡ Ok (p.0 ++ []) =
-            ap (λ (ps : List (List ℕ)). with_front p.0 (all_counters file t ps)) (drop_all i paths le) ∙ ap (with_front p.0) (none_left file t) in
+        ap (λ (ps : List (List ℕ)). with_front p.0 (all_counters file t ps)) (drop_all i paths le) ∙ ap (with_front p.0) (none_left file t) in
         (p.0, sym p.1 ∙ end ∙ ap (λ (xs : List (Head × List Entry)). Ok xs) (append-nil p.0), p.2)
 
 -- ---- the meta file

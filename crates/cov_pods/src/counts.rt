@@ -12,10 +12,7 @@ use std::alloc::Global;
 /// The count of each unit, by package and function.
 pub type Counts = Sequence<Sequence<Sequence<u32>>>;
 
-fn package_zeros(
-    alloc: Global,
-    package: &MetaPackage,
-) -> Result<Sequence<Sequence<u32>>, NoMemory>
+fn package_zeros(alloc: Global, package: &MetaPackage) -> Result<Sequence<Sequence<u32>>, NoMemory>
     ensures { IfOk result (λ counts. counts ≡ map (λ f. replicate (length f.units) 0) «package».now.functions) }
 {
     let mut counts = Sequence::new(alloc);

@@ -19,4 +19,6 @@ pub use names::{counter_hash, meta_hash};
 pub use pod::{DirNames, Pod};
 
 #[cfg(test)]
+mod decode_tests;
+#[cfg(test)]
 mod tests;
