@@ -1,5 +1,5 @@
 -- Offsets behind the end of a file.
-use Rattle.std.proofs.Common.{◌≡◌, ℕ, ◌+◌, ◌-◌, ◌<◌, ◌≤◌, List, [], length, take, drop, Bool, true, false, Result, Ok, Err, refl, sym, ap, ◌∙◌, arith, nat_lt, ◌==◌, if◌then◌else◌}
+use Rattle.std.proofs.Common.{◌≡◌, ℕ, ◌+◌, ◌-◌, ◌<◌, ◌≤◌, List, [], length, drop, Bool, true, false, Result, Err, refl, arith, ◌==◌, if◌then◌else◌}
 use Rattle.std.proofs.lemmas.Bool.{lt-ltb}
 use Rattle.std.proofs.Math.ListN.{drop_of_length-le}
 use Rattle.cov_bytes.specs.Reading.{little_at, big_at, uleb_at}
@@ -10,7 +10,7 @@ use Rattle.cov_counter.specs.declared.fault.CounterFault.TheVariants as faults
 use Rattle.cov_outside.specs.declared.data_kind.DataKind.TheVariants as kinds
 use Rattle.cov_outside.specs.declared.limit.Which.TheVariants.{DataBytes}
 use Rattle.cov_counter.specs.Fault.{fault_of, Fails}
-use Rattle.cov_counter.specs.File.{Known, field}
+use Rattle.cov_counter.specs.File.{Known}
 use Rattle.cov_counter.specs.Entry.{number_at, length_at, entry_at}
 use Rattle.cov_counter.specs.Rest.{padding_in, behind_rest}
 

@@ -1,13 +1,13 @@
 -- Fields and what stands there.
-use Rattle.std.proofs.Common.{◌≡◌, ℕ, ◌+◌, ◌-◌, ◌<◌, ◌≤◌, List, [], ◌∷◌, length, take, drop, get_or, Result, Ok, Err, refl, sym, ap, ◌∙◌, subst, arith}
-use Rattle.std.specs.Prelude.{Bool, true, false, nat_lt, if◌then◌else◌, ◌==◌, slice_index}
-use Rattle.std.proofs.lemmas.Bool.{ltb-false, le-ltb, eqb-true}
+use Rattle.std.proofs.Common.{◌≡◌, ℕ, ◌+◌, ◌-◌, ◌≤◌, List, [], ◌∷◌, length, take, drop, Result, Ok, Err, refl, sym, ap, ◌∙◌, arith}
+use Rattle.std.specs.Prelude.{nat_lt, if◌then◌else◌, slice_index}
+use Rattle.std.proofs.lemmas.Bool.{ltb-false, le-ltb}
 use Rattle.std.proofs.lemmas.List.{drop_more, length-take-le, length-drop, take-append-drop}
 use Rattle.byteorder.specs.Endian.{little_number, big_number}
 use Rattle.cov_bytes.specs.declared.cursor.CutFault.{CutFault}
 use Rattle.cov_bytes.specs.declared.cursor.CutFault.TheVariants.{Short}
 use Rattle.cov_bytes.specs.Reading.{little_at, big_at, byte_at, take_at, uleb_at}
-use Rattle.cov_bytes.specs.Laws.{IsUleb, NumbersAreRead, NumbersAreSpelled}
+use Rattle.cov_bytes.specs.Laws.{NumbersAreRead, NumbersAreSpelled}
 use Rattle.cov_counter.specs.Spelling.{IsPiece, IsLittle, IsBig, IsGroups, IsByte}
 use Rattle.cov_counter.proofs.Bind.{same_ok, passed}
 

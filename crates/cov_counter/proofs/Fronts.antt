@@ -1,5 +1,5 @@
 -- A file that is read piece by piece, up to a limit.
-use Rattle.std.proofs.Common.{◌≡◌, ℕ, ◌+◌, ◌-◌, ◌<◌, ◌≤◌, List, [], ◌∷◌, ◌++◌, zero, suc, length, take, drop, min, Option, Some, None, Bool, true, false, nat_lt, refl, sym, ap, ◌∙◌, arith, take-add, length-append, Result, Ok, IfSome}
+use Rattle.std.proofs.Common.{◌≡◌, ℕ, ◌+◌, ◌-◌, ◌<◌, ◌≤◌, List, [], ◌∷◌, ◌++◌, zero, suc, length, take, drop, Option, Some, None, true, false, refl, sym, ap, ◌∙◌, arith, take-add, length-append, Ok, IfSome}
 use Rattle.std.proofs.lemmas.List.{take_all, length-take, length-take-le, length-drop}
 use Rattle.std.proofs.lemmas.Bool.{le-ltb, lt-ltb}
 use Rattle.cov_outside.specs.Tree.{Tree, ReadsAt}

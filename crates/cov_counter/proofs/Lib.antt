@@ -1,3 +1,4 @@
+pub mod Loops
 pub mod Fronts
 pub mod Beyond
 pub mod Bind

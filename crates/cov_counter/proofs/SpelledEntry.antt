@@ -1,18 +1,17 @@
 -- Reading entries and their spelling.
-use Rattle.std.proofs.Common.{◌≡◌, ℕ, ◌+◌, ◌<◌, ◌≤◌, List, [], ◌∷◌, length, Result, Ok, Err, refl, sym, ap, ◌∙◌, subst, arith}
+use Rattle.std.proofs.Common.{◌≡◌, ℕ, ◌≤◌, length, Ok, refl, sym, ap, subst}
 use Rattle.std.specs.Prelude.{Bool, true, false, nat_lt, if◌then◌else◌, ◌==◌, MatchBool}
 use Rattle.std.proofs.lemmas.Bool.{ltb-false, le-ltb}
 use Rattle.cov_bytes.specs.Reading.{little_at, big_at, uleb_at}
 use Rattle.cov_bytes.specs.Laws.{NumbersAreRead, NumbersAreSpelled}
-use Rattle.cov_bytes.specs.Many.{◌>>=◌, many}
+use Rattle.cov_bytes.specs.Many.{many}
 use Rattle.cov_outside.specs.declared.limit.Which.TheVariants.{Units}
-use Rattle.cov_counter.specs.declared.fault.CounterFault.{CounterFault}
 use Rattle.cov_counter.specs.declared.fault.CounterFault.TheVariants.{Limit}
 use Rattle.cov_counter.specs.declared.head.Head.{Head}
 use Rattle.cov_counter.specs.declared.entry.Entry.{Entry}
 use Rattle.cov_counter.specs.File.{Known, field}
 use Rattle.cov_counter.specs.Entry.{number_at, length_at, entry_at}
-use Rattle.cov_counter.specs.Spelling.{IsLittle, IsBig, IsGroups, IsNumber, InTurn, IsEntry}
+use Rattle.cov_counter.specs.Spelling.{IsLittle, IsBig, IsGroups, IsNumber, IsEntry}
 use Rattle.cov_counter.proofs.Bind.{bind_ok, field_ok, same_ok, passed}
 use Rattle.cov_counter.proofs.Fields.{little_spells, little_reads, big_spells, big_reads, groups_spells, groups_reads}
 use Rattle.cov_counter.proofs.Turns.{many_spells, many_reads}

@@ -1,14 +1,13 @@
 -- Reading a whole file and its spelling.
-use Rattle.std.proofs.Common.{◌≡◌, ℕ, ◌+◌, ◌<◌, ◌≤◌, List, [], ◌∷◌, length, take, Option, Some, Result, Ok, Err, refl, sym, ap, ◌∙◌, subst, arith}
-use Rattle.std.specs.Prelude.{Bool, true, false, nat_lt}
+use Rattle.std.proofs.Common.{◌≡◌, ℕ, ◌≤◌, List, length, Some, Ok, refl, sym, ap, ◌∙◌, subst}
+use Rattle.std.specs.Prelude.{false}
 use Rattle.std.proofs.lemmas.Bool.{ltb-false, le-ltb}
 use Rattle.std.proofs.lemmas.List.{take_all}
 use Rattle.cov_bytes.specs.Laws.{NumbersAreRead, NumbersAreSpelled}
 use Rattle.cov_bytes.specs.Many.{◌>>=◌, many}
-use Rattle.cov_counter.specs.declared.fault.CounterFault.{CounterFault}
 use Rattle.cov_counter.specs.declared.head.Head.{Head}
 use Rattle.cov_counter.specs.declared.entry.Entry.{Entry}
-use Rattle.cov_counter.specs.File.{Known, known}
+use Rattle.cov_counter.specs.File.{known}
 use Rattle.cov_counter.specs.Head.{head_at}
 use Rattle.cov_counter.specs.Entry.{entry_at}
 use Rattle.cov_counter.specs.Rest.{behind_rest}

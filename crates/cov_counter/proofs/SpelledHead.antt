@@ -1,15 +1,13 @@
 -- Reading a header and its spelling.
-use Rattle.std.proofs.Common.{◌≡◌, ℕ, ◌+◌, ◌-◌, ◌<◌, ◌≤◌, List, [], ◌∷◌, length, take, drop, Result, Ok, Err, refl, sym, ap, ◌∙◌, subst, arith, inl, inr}
+use Rattle.std.proofs.Common.{◌≡◌, ℕ, ◌+◌, ◌≤◌, List, length, Result, Ok, Err, refl, ap, subst, arith, inl, inr}
 use Rattle.std.specs.Prelude.{Bool, true, false, if◌then◌else◌, ◌==◌, ◌⊎◌}
 use Rattle.std.proofs.lemmas.Bool.{eqb-true}
 use Rattle.cov_bytes.specs.Reading.{take_at, byte_at, little_at}
 use Rattle.cov_bytes.specs.Laws.{NumbersAreRead, NumbersAreSpelled}
-use Rattle.cov_bytes.specs.Many.{◌>>=◌}
 use Rattle.cov_outside.specs.declared.data_kind.DataKind.TheVariants as kinds
-use Rattle.cov_counter.specs.declared.fault.CounterFault.{CounterFault}
 use Rattle.cov_counter.specs.declared.fault.CounterFault.TheVariants.{At}
 use Rattle.cov_counter.specs.declared.head.Head.{Head}
-use Rattle.cov_counter.specs.File.{Known, field}
+use Rattle.cov_counter.specs.File.{Known}
 use Rattle.cov_counter.specs.Head.{behind_magic, behind_version, flavour_at, flag_at, form_at, head_at}
 use Rattle.cov_counter.specs.Parts.{parts_at}
 use Rattle.cov_counter.specs.Spelling.{IsPiece, IsLittle, IsByte, IsParts, IsHead}

@@ -1,11 +1,9 @@
 -- Reading both parts of stated lengths, and what stands there.
-use Rattle.std.proofs.Common.{◌≡◌, ℕ, ◌+◌, ◌-◌, ◌<◌, ◌≤◌, List, length, take, drop, Result, Ok, Err, refl, sym, ap, ◌∙◌, subst, arith}
+use Rattle.std.proofs.Common.{◌≡◌, ℕ, ◌+◌, ◌≤◌, List, length, take, Ok, refl, sym, ap, ◌∙◌, subst, arith}
 use Rattle.cov_bytes.specs.Reading.{take_at, little_at}
 use Rattle.cov_bytes.specs.Writing.{padding}
 use Rattle.cov_bytes.specs.Laws.{NumbersAreRead, NumbersAreSpelled}
-use Rattle.cov_bytes.specs.Many.{◌>>=◌}
-use Rattle.cov_counter.specs.declared.fault.CounterFault.{CounterFault}
-use Rattle.cov_counter.specs.File.{Known, field, up_to}
+use Rattle.cov_counter.specs.File.{Known, up_to}
 use Rattle.cov_counter.specs.Parts.{strings_at, pairs_at, table_at, args_at, behind_padding, parts_at}
 use Rattle.cov_counter.specs.Spelling.{IsLittle, IsTable, IsArgs, IsParts}
 use Rattle.cov_counter.proofs.Bind.{bind_ok, field_bind, same_ok}

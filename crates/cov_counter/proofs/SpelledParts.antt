@@ -1,17 +1,15 @@
 -- Reading the string table and the arguments, and their spelling.
-use Rattle.std.proofs.Common.{◌≡◌, ℕ, ◌+◌, ◌-◌, ◌<◌, ◌≤◌, List, length, take, drop, Result, Ok, Err, refl, sym, ap, ◌∙◌, subst, arith}
-use Rattle.std.specs.Prelude.{Bool, true, false, nat_lt, if◌then◌else◌}
+use Rattle.std.proofs.Common.{◌≡◌, ℕ, List, Ok, refl, sym, ap, ◌∙◌, subst, arith}
+use Rattle.std.specs.Prelude.{nat_lt}
 use Rattle.std.proofs.lemmas.Bool.{ltb-true, lt-ltb}
-use Rattle.cov_bytes.specs.Reading.{take_at, uleb_at, little_at}
+use Rattle.cov_bytes.specs.Reading.{take_at, uleb_at}
 use Rattle.cov_bytes.specs.Laws.{NumbersAreRead, NumbersAreSpelled}
-use Rattle.cov_bytes.specs.Many.{◌>>=◌}
 use Rattle.cov_outside.specs.declared.data_kind.DataKind.TheVariants as kinds
-use Rattle.cov_counter.specs.declared.fault.CounterFault.{CounterFault}
 use Rattle.cov_counter.specs.declared.fault.CounterFault.TheVariants.{At}
 use Rattle.cov_counter.specs.Each.{each}
-use Rattle.cov_counter.specs.File.{Known, field, up_to}
+use Rattle.cov_counter.specs.File.{Known}
 use Rattle.cov_counter.specs.Parts.{behind_string, strings_at, behind_index, behind_pair, pairs_at}
-use Rattle.cov_counter.specs.Spelling.{IsGroups, IsString, IsTable, IsIndex, IsArgs, Turns}
+use Rattle.cov_counter.specs.Spelling.{IsGroups, IsString, IsTable, IsIndex, IsArgs}
 use Rattle.cov_counter.proofs.Bind.{bind_ok, field_bind, same_ok, chosen}
 use Rattle.cov_counter.proofs.Fields.{groups_spells, groups_reads, skip_spells, skip_reads}
 use Rattle.cov_counter.proofs.Turns.{each_spells, each_reads}

@@ -1,15 +1,13 @@
 -- Reading the end of a file and its spelling.
-use Rattle.std.proofs.Common.{◌≡◌, ℕ, zero, suc, ◌+◌, ◌-◌, ◌<◌, ◌≤◌, List, [], ◌∷◌, length, take, drop, Result, Ok, Err, refl, sym, ap, ◌∙◌, subst, arith}
-use Rattle.std.specs.Prelude.{Bool, true, false, nat_lt, if◌then◌else◌, ◌==◌}
+use Rattle.std.proofs.Common.{◌≡◌, ℕ, zero, suc, ◌+◌, ◌-◌, ◌≤◌, List, length, take, drop, Ok, Err, refl, ap, ◌∙◌, subst, arith}
+use Rattle.std.specs.Prelude.{false, nat_lt, if◌then◌else◌, ◌==◌}
 use Rattle.std.proofs.lemmas.Bool.{ltb-false, le-ltb, eqb-true}
 use Rattle.cov_bytes.specs.Reading.{take_at, byte_at, little_at}
-use Rattle.cov_bytes.specs.Many.{◌>>=◌}
 use Rattle.cov_outside.specs.declared.data_kind.DataKind.TheVariants as kinds
 use Rattle.cov_outside.specs.declared.limit.Which.TheVariants.{DataBytes}
-use Rattle.cov_counter.specs.declared.fault.CounterFault.{CounterFault}
 use Rattle.cov_counter.specs.declared.fault.CounterFault.TheVariants.{At, Limit}
 use Rattle.cov_counter.specs.Each.{each}
-use Rattle.cov_counter.specs.File.{Known, field}
+use Rattle.cov_counter.specs.File.{Known}
 use Rattle.cov_counter.specs.Head.{behind_magic}
 use Rattle.cov_counter.specs.Rest.{padding_in, behind_zero, behind_segments, behind_footer, behind_rest}
 use Rattle.cov_counter.specs.Spelling.{IsByte, IsLittle, Turns, IsRest}

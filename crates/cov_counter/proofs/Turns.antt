@@ -1,6 +1,6 @@
 -- Things one after the other, and reading them.
-use Rattle.std.proofs.Common.{◌≡◌, ℕ, zero, suc, ◌+◌, List, [], ◌∷◌, length, Result, Ok, Err, refl, sym, ap, ◌∙◌, subst}
-use Rattle.cov_bytes.specs.Many.{◌>>=◌, many}
+use Rattle.std.proofs.Common.{◌≡◌, ℕ, zero, suc, List, [], ◌∷◌, length, Result, Ok, refl, sym, ap, subst}
+use Rattle.cov_bytes.specs.Many.{many}
 use Rattle.cov_counter.specs.Each.{each}
 use Rattle.cov_counter.specs.Spelling.{InTurn, Turns}
 use Rattle.cov_counter.proofs.Bind.{bind_ok, same_ok}

@@ -1,16 +1,14 @@
 -- What is written is spelled.
-use Rattle.std.proofs.Common.{◌≡◌, ℕ, zero, suc, ◌+◌, ◌-◌, ◌^◌, ◌<◌, ◌≤◌, List, [], ◌∷◌, ◌++◌, length, take, drop, Result, Ok, Err, refl, sym, ap, ◌∙◌, subst, arith, append_assoc, length-append, length-drop, inl, inr, lit<}
-use Rattle.std.specs.Prelude.{All, replicate, false, true}
+use Rattle.std.proofs.Common.{◌≡◌, ℕ, zero, suc, ◌+◌, ◌-◌, ◌^◌, ◌<◌, ◌≤◌, List, [], ◌∷◌, ◌++◌, length, take, drop, refl, sym, ap, ◌∙◌, subst, arith, append_assoc, length-append, length-drop, inr, lit<}
+use Rattle.std.specs.Prelude.{All, replicate}
 use Rattle.std.specs.List.{flat_map}
 use Rattle.std.proofs.Math.Seq.{drop-append_seam, take-append_seam}
-use Rattle.std.proofs.lemmas.List.{append-nil, drop-take}
+use Rattle.std.proofs.lemmas.List.{drop-take}
 use Rattle.byteorder.specs.Endian.{little_bytes}
-use Rattle.cov_bytes.specs.Reading.{little_at, uleb_at}
 use Rattle.cov_bytes.specs.Writing.{uleb_of, groups_of}
-use Rattle.cov_bytes.specs.Laws.{IsUleb, NumbersAreRead, NumbersAreSpelled, WrittenIsShortest, FixedAreRead}
-use Rattle.cov_counter.specs.declared.head.Head.{Head}
+use Rattle.cov_bytes.specs.Laws.{NumbersAreRead, NumbersAreSpelled, WrittenIsShortest, FixedAreRead}
 use Rattle.cov_counter.specs.declared.entry.Entry.{Entry}
-use Rattle.cov_counter.specs.Spelling.{IsPiece, IsLittle, IsGroups, IsByte, IsNumber, InTurn, Turns, IsTable, IsArgs, IsParts, IsHead, IsEntry, IsEntryAt, IsRest, Spells, entry_numbers}
+use Rattle.cov_counter.specs.Spelling.{IsPiece, IsLittle, IsGroups, IsNumber, InTurn, IsParts, IsHead, IsEntry, IsEntryAt, IsRest, entry_numbers}
 use Rattle.cov_counter.specs.Text.{magic_text, head_text, entry_text, footer_text, counter_text, written_head, placed, CanBeWritten, WrittenIsSpelled}
 use Rattle.cov_counter.proofs.Fields.{little_spells, groups_spells}
 

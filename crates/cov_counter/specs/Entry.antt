@@ -1,5 +1,5 @@
 -- The counters of one function.
-use Rattle.std.specs.Prelude.{◌≡◌, ℕ, ◌+◌, List, Result, Ok, Err, if◌then◌else◌, ◌==◌, nat_lt}
+use Rattle.std.specs.Prelude.{ℕ, Result, Ok, Err, if◌then◌else◌, ◌==◌, nat_lt}
 use Rattle.cov_bytes.specs.Reading.{uleb_at, little_at, big_at}
 use Rattle.cov_bytes.specs.Many.{◌>>=◌, many}
 use Rattle.cov_outside.specs.declared.limit.Which.TheVariants.{Units}

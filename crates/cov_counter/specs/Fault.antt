@@ -1,5 +1,5 @@
 -- Faults of counter files.
-use Rattle.std.specs.Prelude.{◌≡◌, ℕ, Bool, Result, Ok, Err, if◌then◌else◌}
+use Rattle.std.specs.Prelude.{◌≡◌, Bool, Result, Err, if◌then◌else◌}
 use Rattle.cov_bytes.specs.declared.cursor.CutFault.{CutFault}
 use Rattle.cov_bytes.specs.declared.cursor.CutFault.TheVariants as cut_fault
 use Rattle.cov_outside.specs.declared.data_kind.DataKind.TheVariants as kinds
@@ -20,11 +20,3 @@ Fails (faults.At offset kind) there = there ≡ Err (faults.At offset kind)
 Fails (faults.Limit w) there = there ≡ Err (faults.Limit w)
 Fails faults.Missing there = ⊥
 Fails faults.Read there = ⊥
-
--- a fault of a part is the fault of the whole
-pub Fails-further : {A B : Type 0} (e : CounterFault) (r : Result A CounterFault) (total : Result B CounterFault) → Fails e r → ((f : CounterFault) → r ≡ Err f → total ≡ Err f) → Fails e total
-Fails-further faults.NoMemory r total h carry = tt
-Fails-further (faults.At offset kind) r total h carry = carry (faults.At offset kind) h
-Fails-further (faults.Limit w) r total h carry = carry (faults.Limit w) h
-Fails-further faults.Missing r total h carry = absurd h
-Fails-further faults.Read r total h carry = absurd h

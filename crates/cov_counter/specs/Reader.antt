@@ -7,6 +7,7 @@ use Rattle.cov_bytes.specs.Many.{◌>>=◌, many}
 use Rattle.cov_counter.specs.declared.fault.CounterFault.{CounterFault}
 use Rattle.cov_counter.specs.declared.head.Head.{Head}
 use Rattle.cov_counter.specs.declared.entry.Entry.{Entry}
+use Rattle.cov_counter.specs.declared.reader.CounterReader.{CounterReader}
 use Rattle.cov_counter.specs.declared.stage.Stage.{Stage}
 use Rattle.cov_counter.specs.declared.stage.Stage.TheVariants.{New, Reading, Failed}
 use Rattle.cov_counter.specs.Fault.{Fails}
@@ -57,11 +58,21 @@ IsBefore n New = ⊥
 IsBefore n (Reading at left) = left ≡ n
 IsBefore n (Failed f) = ⊥
 
--- What a reader holds is what there is at its path, so that it can go on. A reader that was opened is ready, and stays so.
-unfoldable pub IsReady : Option Tree → List ℕ → Known → Stage → Type 0
-IsReady tree path held New = ⊥
-IsReady tree path held (Reading at left) = IfSome tree (λ t. file_at (map.get t path) ≡ Ok held)
-IsReady tree path held (Failed f) = Unit {0}
+-- how many entries are left
+abbrev pub left_of : Stage → ℕ
+left_of New = 0
+left_of (Reading at left) = left
+left_of (Failed f) = 0
+
+-- what is held is what there is at the path, where it is still needed
+unfoldable pub IsHeld : Option Tree → List ℕ → Known → Stage → Type 0
+IsHeld tree path held New = ⊥
+IsHeld tree path held (Reading at left) = IfSome tree (λ t. file_at (map.get t path) ≡ Ok held)
+IsHeld tree path held (Failed f) = Unit {0}
+
+-- A reader was opened, and what it knows of its file holds, so that it can go on.
+unfoldable pub IsReady : {F : Type 0} → (F → Option Tree) → CounterReader F Known → Type 0
+IsReady tree reader = IsHeld (tree reader.files.now) reader.path.now reader.held reader.stage
 
 -- next answered that no entry is left, or a fault is kept
 abbrev pub IsOver : Stage → Type 0
@@ -70,10 +81,11 @@ IsOver (Reading at left) = left ≡ 0
 IsOver (Failed f) = Unit {0}
 
 -- the count rose where a read failed in this call, and a kept fault is answered without a read
-abbrev pub CountsFrom : {X : Type 0} → Stage → Count → Count → Result X CounterFault → Type 0
-CountsFrom New before now result = CountsRead before now result
-CountsFrom (Reading at left) before now result = CountsRead before now result
-CountsFrom (Failed f) before now result = now ≡ before
+abbrev pub CountsFrom : {X : Type 0} → Result X CounterFault → Stage → Count → Count → Type 0
+CountsFrom (Ok x) stage before now = now ≡ before
+CountsFrom {X = X} (Err e) New before now = CountsRead {X = X} before now (Err e)
+CountsFrom {X = X} (Err e) (Reading at left) before now = CountsRead {X = X} before now (Err e)
+CountsFrom (Err e) (Failed f) before now = now ≡ before
 
 -- ---- open
 
@@ -83,11 +95,11 @@ Opens stage head (Ok x) = IsBefore head.entries stage
 Opens stage head (Err e) = stage ≡ Failed e
 
 -- the head and the offset of the first entry are those that are there, or the fault is
-abbrev pub OpensAt : Stage → Head → Result (Unit {0}) CounterFault → Result (Head × ℕ) CounterFault → Type 0
-OpensAt New head (Ok x) there = ⊥
-OpensAt (Reading at left) head (Ok x) there = there ≡ Ok (head, at)
-OpensAt (Failed f) head (Ok x) there = ⊥
-OpensAt stage head (Err e) there = IsFaultOf e there
+abbrev pub OpensAt : Result (Unit {0}) CounterFault → Stage → Head → Result (Head × ℕ) CounterFault → Type 0
+OpensAt (Ok x) New head there = ⊥
+OpensAt (Ok x) (Reading at left) head there = there ≡ Ok (head, at)
+OpensAt (Ok x) (Failed f) head there = ⊥
+OpensAt (Err e) stage head there = IsFaultOf e there
 
 -- ---- next
 
@@ -100,14 +112,14 @@ Advances (Reading at left) stage (Err e) = (0 < left) × (stage ≡ Failed e)
 Advances (Failed f) stage result = (result ≡ Err f) × (stage ≡ Failed f)
 
 -- the entry and the offset behind it are those that are there, or the fault is
-abbrev pub AdvancesAt : Stage → Stage → Result (Option (ℕ × Entry)) CounterFault → Head → Option (List ℕ) → Type 0
-AdvancesAt (Reading at left) (Reading next rest) (Ok (Some x)) head there = entry_of head at there ≡ Ok (x.1, next)
-AdvancesAt (Reading at left) New (Ok (Some x)) head there = ⊥
-AdvancesAt (Reading at left) (Failed f) (Ok (Some x)) head there = ⊥
-AdvancesAt (Reading at left) stage (Ok None) head there = Unit {0}
-AdvancesAt (Reading at left) stage (Err e) head there = IsFaultOf e (entry_of head at there)
-AdvancesAt New stage result head there = Unit {0}
-AdvancesAt (Failed f) stage result head there = Unit {0}
+abbrev pub AdvancesAt : Stage → Result (Option (ℕ × Entry)) CounterFault → Stage → Head → Option (List ℕ) → Type 0
+AdvancesAt New result stage head there = Unit {0}
+AdvancesAt (Reading at left) (Ok None) stage head there = Unit {0}
+AdvancesAt (Reading at left) (Ok (Some x)) New head there = ⊥
+AdvancesAt (Reading at left) (Ok (Some x)) (Reading next rest) head there = entry_of head at there ≡ Ok (x.1, next)
+AdvancesAt (Reading at left) (Ok (Some x)) (Failed f) head there = ⊥
+AdvancesAt (Reading at left) (Err e) stage head there = IsFaultOf e (entry_of head at there)
+AdvancesAt (Failed f) result stage head there = Unit {0}
 
 -- ---- finish
 

@@ -1,6 +1,6 @@
 -- Which bytes spell a counter file: what stands at which offset.
 -- The layout is that of internal/coverage/defs.go in Go 1.20, with one segment.
-use Rattle.std.specs.Prelude.{◌≡◌, ℕ, zero, suc, ◌+◌, ◌-◌, ◌<◌, ◌≤◌, List, [], ◌∷◌, length, take, drop, slice_index, Bool, MatchBool, ◌⊎◌, if◌then◌else◌, ◌==◌}
+use Rattle.std.specs.Prelude.{◌≡◌, ℕ, zero, suc, ◌+◌, ◌-◌, ◌<◌, ◌≤◌, List, [], ◌∷◌, length, take, drop, MatchBool, ◌⊎◌, if◌then◌else◌, ◌==◌}
 use Rattle.byteorder.specs.Endian.{little_number, big_number}
 use Rattle.cov_bytes.specs.Laws.{IsUleb}
 use Rattle.cov_bytes.specs.Writing.{padding}

@@ -1,5 +1,5 @@
 //! Reading a counter file entry by entry.
-ghost use Rattle.std.specs.Prelude.{◌≡◌, IfNone, IfOk, IfSome, MatchResult, OnOk};
+ghost use Rattle.std.specs.Prelude.{◌≡◌, IfNone, IfOk, IfSome, MatchResult, OnErr, OnOk, false, replicate};
 ghost use Rattle.std.specs.FinMap as map;
 ghost use Rattle.cov_counter.specs.declared.stage.Stage.TheVariants as stage;
 ghost use Rattle.cov_counter.specs.File.{Gives};
@@ -19,7 +19,8 @@ use cov_outside::Files;
 use std::alloc::Global;
 
 /// Reads a counter file: its head, its entries in order, and its end. After a fault each call answers that fault.
-/// What is held of the file has a type of its own in the reader's, since a caller then knows its files after the reader is gone.
+// The type of what is held is a parameter: a proof follows the borrowed files to where the reader is dropped only
+// where the reader itself declares no field that owns memory.
 pub struct CounterReader<'a, F: Files, H = Held> {
     files: &'a mut F,
     path: &'a str,
@@ -88,6 +89,7 @@ impl<'a, F: Files> CounterReader<'a, F> {
         ensures files { result.files.now ≡ files.old }
         ensures path { result.path.now ≡ path.now }
         ensures stage { result.stage ≡ stage.New }
+        ensures head { result.head ≡ record { hash = replicate 16 0; flavour = 2; big = false; entries = 0; args = 0 } }
     {
         CounterReader {
             files,
@@ -112,9 +114,9 @@ impl<'a, F: Files> CounterReader<'a, F> {
     ) -> Result<CounterReader<'a, F>, CounterFault>
         ensures reference { IfOk result (λ r. r.files.ghost_name ≡ files.entry.ghost_name) }
         ensures path { IfOk result (λ r. r.path.now ≡ path.now) }
-        ensures ready { IfOk result (λ r. IsReady (F.tree r.files.now) r.path.now r.held r.stage) }
+        ensures ready { IfOk result (λ r. IsReady F.tree r) }
         ensures stage { IfOk result (λ r. IsBefore r.head.entries r.stage) }
-        ensures told { IfSome (F.tree files.old) (λ t. MatchResult result (λ r. OpensAt r.stage r.head (Ok tt) (start_of (map.get t path.now))) (λ e. IsFaultOf e (start_of (map.get t path.now)))) }
+        ensures told { IfSome (F.tree files.old) (λ t. MatchResult result (λ r. OpensAt (Ok tt) r.stage r.head (start_of (map.get t path.now))) (λ e. IsFaultOf e (start_of (map.get t path.now)))) }
         ensures same { IfOk result (λ r. F.tree r.files.now ≡ F.tree files.old) }
         ensures reads { IfOk result (λ r. F.read_faults r.files.now ≡ F.read_faults files.old) }
         ensures puts { IfOk result (λ r. F.put_faults r.files.now ≡ F.put_faults files.old) }
@@ -124,13 +126,14 @@ impl<'a, F: Files> CounterReader<'a, F> {
         Ok(reader)
     }
 
-    #[tactic(auto, unfolding(crate::specs::Reader::start_of, crate::specs::Reader::IsReady))]
+    #[tactic(auto, unfolding(crate::specs::Reader::start_of, crate::specs::Reader::IsReady, crate::specs::Reader::IsHeld))]
     fn read_start(&mut self, alloc: Global) -> Result<(), CounterFault>
         ensures reference { self.new.files.ghost_name ≡ self.old.files.ghost_name }
         ensures path { self.new.path.now ≡ self.old.path.now }
-        ensures ready { OnOk result (IsReady (F.tree self.new.files.now) self.new.path.now self.new.held self.new.stage) }
+        ensures ready { OnOk result (IsReady F.tree self.new) }
         ensures stage { OnOk result (IsBefore self.new.head.entries self.new.stage) }
-        ensures told { IfSome (F.tree self.old.files.now) (λ t. OpensAt self.new.stage self.new.head result (start_of (map.get t self.old.path.now))) }
+        ensures head { OnErr result (self.new.head ≡ self.old.head) }
+        ensures told { IfSome (F.tree self.old.files.now) (λ t. OpensAt result self.new.stage self.new.head (start_of (map.get t self.old.path.now))) }
         ensures same { F.tree self.new.files.now ≡ F.tree self.old.files.now }
         ensures cause { CountsRead (F.read_faults self.old.files.now) (F.read_faults self.new.files.now) result }
         ensures puts { F.put_faults self.new.files.now ≡ F.put_faults self.old.files.now }
@@ -146,14 +149,15 @@ impl<'a, F: Files> CounterReader<'a, F> {
     }
 
     /// Reads up to the entries.
-    #[tactic(auto, unfolding(crate::specs::Reader::IsReady))]
+    #[tactic(auto, unfolding(crate::specs::Reader::IsReady, crate::specs::Reader::IsHeld))]
     pub fn open(&mut self, alloc: Global) -> Result<(), CounterFault>
         requires { self.old.stage ≡ stage.New }
         ensures reference { self.new.files.ghost_name ≡ self.old.files.ghost_name }
         ensures path { self.new.path.now ≡ self.old.path.now }
-        ensures ready { IsReady (F.tree self.new.files.now) self.new.path.now self.new.held self.new.stage }
+        ensures ready { IsReady F.tree self.new }
         ensures stage { Opens self.new.stage self.new.head result }
-        ensures told { IfSome (F.tree self.old.files.now) (λ t. OpensAt self.new.stage self.new.head result (start_of (map.get t self.old.path.now))) }
+        ensures head { OnErr result (self.new.head ≡ self.old.head) }
+        ensures told { IfSome (F.tree self.old.files.now) (λ t. OpensAt result self.new.stage self.new.head (start_of (map.get t self.old.path.now))) }
         ensures same { F.tree self.new.files.now ≡ F.tree self.old.files.now }
         ensures cause { CountsRead (F.read_faults self.old.files.now) (F.read_faults self.new.files.now) result }
         ensures puts { F.put_faults self.new.files.now ≡ F.put_faults self.old.files.now }
@@ -175,18 +179,18 @@ impl<'a, F: Files> CounterReader<'a, F> {
     }
 
     /// The offset of the next entry and the entry; `None` exactly after the last.
-    #[tactic(auto, unfolding(crate::specs::Reader::IsReady, crate::specs::Reader::entry_of))]
+    #[tactic(auto, unfolding(crate::specs::Reader::IsReady, crate::specs::Reader::IsHeld, crate::specs::Reader::entry_of))]
     pub fn next(&mut self, alloc: Global) -> Result<Option<(u64, Entry)>, CounterFault>
-        requires { IsReady (F.tree self.old.files.now) self.old.path.now self.old.held self.old.stage }
+        requires { IsReady F.tree self.old }
         ensures reference { self.new.files.ghost_name ≡ self.old.files.ghost_name }
         ensures path { self.new.path.now ≡ self.old.path.now }
         ensures head { self.new.head ≡ self.old.head }
-        ensures ready { IsReady (F.tree self.new.files.now) self.new.path.now self.new.held self.new.stage }
+        ensures ready { IsReady F.tree self.new }
         ensures stage { Advances self.old.stage self.new.stage result }
         ensures over { IfOk result (λ found. IfNone found (IsOver self.new.stage)) }
-        ensures told { IfSome (F.tree self.old.files.now) (λ t. AdvancesAt self.old.stage self.new.stage result self.old.head (map.get t self.old.path.now)) }
+        ensures told { IfSome (F.tree self.old.files.now) (λ t. AdvancesAt self.old.stage result self.new.stage self.old.head (map.get t self.old.path.now)) }
         ensures same { F.tree self.new.files.now ≡ F.tree self.old.files.now }
-        ensures cause { CountsFrom self.old.stage (F.read_faults self.old.files.now) (F.read_faults self.new.files.now) result }
+        ensures cause { CountsFrom result self.old.stage (F.read_faults self.old.files.now) (F.read_faults self.new.files.now) }
         ensures puts { F.put_faults self.new.files.now ≡ F.put_faults self.old.files.now }
     {
         match self.stage {
@@ -214,14 +218,14 @@ impl<'a, F: Files> CounterReader<'a, F> {
     }
 
     /// Reads what stands behind the last entry.
-    #[tactic(auto, unfolding(crate::specs::Reader::IsReady, crate::specs::Reader::end_of))]
+    #[tactic(auto, unfolding(crate::specs::Reader::IsReady, crate::specs::Reader::IsHeld, crate::specs::Reader::end_of))]
     pub fn finish(self) -> Result<(), CounterFault>
-        requires ready { IsReady (F.tree self.files.now) self.path.now self.held self.stage }
+        requires ready { IsReady F.tree self }
         requires over { IsOver self.stage }
         ensures kept { Keeps self.entry.stage result }
         ensures told { IfSome (F.tree self.entry.files.now) (λ t. Finishes self.entry.stage result (map.get t self.entry.path.now)) }
         ensures same { F.tree self.exit.0.now ≡ F.tree self.entry.files.now }
-        ensures cause { CountsFrom self.entry.stage (F.read_faults self.entry.files.now) (F.read_faults self.exit.0.now) result }
+        ensures cause { CountsFrom result self.entry.stage (F.read_faults self.entry.files.now) (F.read_faults self.exit.0.now) }
         ensures puts { F.put_faults self.exit.0.now ≡ F.put_faults self.entry.files.now }
     {
         let CounterReader {

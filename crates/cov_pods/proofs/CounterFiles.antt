@@ -48,12 +48,12 @@ is_whole file path there head at x start hash entries end = rw (start, hash, ent
 
 -- ---- what the calls of a reader said
 
-open_fault : (stage : Stage) (head : Head) (f : CounterFault) (there : Result (Head × ℕ) CounterFault) → OpensAt stage head (Err f) there → reader.IsFaultOf f there
+open_fault : (stage : Stage) (head : Head) (f : CounterFault) (there : Result (Head × ℕ) CounterFault) → OpensAt (Err f) stage head there → reader.IsFaultOf f there
 open_fault New head f there h = h
 open_fault (Reading at left) head f there h = h
 open_fault (Failed k) head f there h = h
 
-open_start : (n : ℕ) (stage : Stage) (head : Head) (there : Result (Head × ℕ) CounterFault) → IsBefore n stage → OpensAt stage head (Ok tt) there → there ≡ Ok (head, offset_of stage)
+open_start : (n : ℕ) (stage : Stage) (head : Head) (there : Result (Head × ℕ) CounterFault) → IsBefore n stage → OpensAt (Ok tt) stage head there → there ≡ Ok (head, offset_of stage)
 open_start n New head there before h = absurd before
 open_start n (Reading at left) head there before h = h
 open_start n (Failed k) head there before h = absurd before
@@ -79,16 +79,16 @@ abbrev pub Adds : Meta → List ℕ → Head → List (List (List ℕ)) → List
 Adds meta path head counts counted n at next t = (y : List Entry × ℕ) × (many (entry_in meta path head (finmap.get t path)) n at ≡ Ok y) × ((y.1 ≡ next) × Grows meta counts counted y.0)
 
 pub start_fails : (o now : Option Tree) (file : MetaFile) (given path : List ℕ) (stage : Stage) (head : Head) (f : CounterFault) (e : PodFault) → now ≡ o → given ≡ path → Becomes (counter_fault path f) e
-    → IfSome now (λ t. OpensAt stage head (Err f) (start_of (finmap.get t given))) → IfSome o (λ t. IsFaultOf e (counters_in file path (finmap.get t path)))
+    → IfSome now (λ t. OpensAt (Err f) stage head (start_of (finmap.get t given))) → IfSome o (λ t. IsFaultOf e (counters_in file path (finmap.get t path)))
 start_fails o now file given path stage head f e same paths b told =
     some_also _ _ o (λ t h. fails_at_start file path (finmap.get t path) e (counter_told path f e (start_of (finmap.get t path)) b (open_fault stage head f _ h)))
-    (subst (λ (x : Option Tree). IfSome x (λ t. OpensAt stage head (Err f) (start_of (finmap.get t path)))) same (subst (λ (p : List ℕ). IfSome now (λ t. OpensAt stage head (Err f) (start_of (finmap.get t p)))) paths told))
+    (subst (λ (x : Option Tree). IfSome x (λ t. OpensAt (Err f) stage head (start_of (finmap.get t path)))) same (subst (λ (p : List ℕ). IfSome now (λ t. OpensAt (Err f) stage head (start_of (finmap.get t p)))) paths told))
 
 pub starts : (o now : Option Tree) (given path : List ℕ) (stage : Stage) (n : ℕ) (head : Head) → now ≡ o → given ≡ path → IsBefore n stage
-    → IfSome now (λ t. OpensAt stage head (Ok tt) (start_of (finmap.get t given))) → IfSome o (Starts path head (offset_of stage))
+    → IfSome now (λ t. OpensAt (Ok tt) stage head (start_of (finmap.get t given))) → IfSome o (Starts path head (offset_of stage))
 starts o now given path stage n head same paths before told =
     some_also _ _ o (λ t h. open_start n stage head (start_of (finmap.get t path)) before h)
-    (subst (λ (x : Option Tree). IfSome x (λ t. OpensAt stage head (Ok tt) (start_of (finmap.get t path)))) same (subst (λ (p : List ℕ). IfSome now (λ t. OpensAt stage head (Ok tt) (start_of (finmap.get t p)))) paths told))
+    (subst (λ (x : Option Tree). IfSome x (λ t. OpensAt (Ok tt) stage head (start_of (finmap.get t path)))) same (subst (λ (p : List ℕ). IfSome now (λ t. OpensAt (Ok tt) stage head (start_of (finmap.get t p)))) paths told))
 
 pub hash_fails : (o : Option Tree) (file : MetaFile) (path : List ℕ) (head seen : Head) (at : ℕ) (e : PodFault) → seen ≡ head → IfSome o (Starts path head at) → Fails e (same_hash path file.hash seen.hash)
     → IfSome o (λ t. IsFaultOf e (counters_in file path (finmap.get t path)))

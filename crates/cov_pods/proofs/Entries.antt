@@ -25,14 +25,14 @@ use Rattle.cov_pods.proofs.Told.{some_also, some_both, becomes_told, counter_tol
 
 -- ---- one entry
 
-failed_there : (old new : Stage) (f : CounterFault) (head : Head) (there : Option (List ℕ)) → HasNext old → AdvancesAt old new (Err f) head there → reader.IsFaultOf f (entry_of head (offset_of old) there)
+failed_there : (old new : Stage) (f : CounterFault) (head : Head) (there : Option (List ℕ)) → HasNext old → AdvancesAt old (Err f) new head there → reader.IsFaultOf f (entry_of head (offset_of old) there)
 failed_there New new f head there lt h = absurd (omega arith)
 failed_there (Reading at left) New f head there lt h = h
 failed_there (Reading at left) (Reading next rest) f head there lt h = h
 failed_there (Reading at left) (Failed k) f head there lt h = h
 failed_there (Failed k) new f head there lt h = absurd (omega arith)
 
-entry_there : (old new : Stage) (x : ℕ × Entry) (head : Head) (there : Option (List ℕ)) → HasNext old → Advances old new (Ok (Some x)) → AdvancesAt old new (Ok (Some x)) head there
+entry_there : (old new : Stage) (x : ℕ × Entry) (head : Head) (there : Option (List ℕ)) → HasNext old → Advances old new (Ok (Some x)) → AdvancesAt old (Ok (Some x)) new head there
     → (x.0 ≡ offset_of old) × (entry_of head (offset_of old) there ≡ Ok (x.1, offset_of new))
 entry_there New new x head there lt s h = absurd (omega arith)
 entry_there (Reading at left) New x head there lt s h = absurd h
@@ -54,20 +54,20 @@ unfolding entry_in
 entry_is meta path head there at x is fit = rw (is, fit) refl
 
 pub next_fails : (o : Option Tree) (old new : Stage) (f : CounterFault) (e : PodFault) (head : Head) (meta : Meta) (given path : List ℕ) → given ≡ path → HasNext old → Becomes (counter_fault path f) e
-    → IfSome o (λ t. AdvancesAt old new (Err f) head (finmap.get t given)) → IfSome o (λ t. IsFaultOf e (entry_in meta path head (finmap.get t path) (offset_of old)))
+    → IfSome o (λ t. AdvancesAt old (Err f) new head (finmap.get t given)) → IfSome o (λ t. IsFaultOf e (entry_in meta path head (finmap.get t path) (offset_of old)))
 next_fails o old new f e head meta given path same lt b told =
     some_also _ _ o (λ t h. entry_fails meta path head (finmap.get t path) (offset_of old) e
     (counter_told path f e (entry_of head (offset_of old) (finmap.get t path)) b (failed_there old new f head (finmap.get t path) lt h)))
-    (subst (λ (p : List ℕ). IfSome o (λ t. AdvancesAt old new (Err f) head (finmap.get t p))) same told)
+    (subst (λ (p : List ℕ). IfSome o (λ t. AdvancesAt old (Err f) new head (finmap.get t p))) same told)
 
 pub next_misfits : (o : Option Tree) (old new : Stage) (offset : ℕ) (entry : Entry) (kind : DataKind) (e : PodFault) (head : Head) (meta : Meta) (given path : List ℕ) → given ≡ path → HasNext old
     → HasShortParts meta → (HasShortParts meta → length entry.counts < 2 ^ 32 → Err kind ≡ fits meta entry) → Becomes (faults.Data path offset kind) e
-    → Advances old new (Ok (Some (offset, entry))) → IfSome o (λ t. AdvancesAt old new (Ok (Some (offset, entry))) head (finmap.get t given))
+    → Advances old new (Ok (Some (offset, entry))) → IfSome o (λ t. AdvancesAt old (Ok (Some (offset, entry))) new head (finmap.get t given))
     → IfSome o (λ t. IsFaultOf e (entry_in meta path head (finmap.get t path) (offset_of old)))
 next_misfits o old new offset entry kind e head meta given path same lt short fit b stage told =
-    some_also _ _ o (λ t h. there (finmap.get t path) h) (subst (λ (p : List ℕ). IfSome o (λ t. AdvancesAt old new (Ok (Some (offset, entry))) head (finmap.get t p))) same told)
+    some_also _ _ o (λ t h. there (finmap.get t path) h) (subst (λ (p : List ℕ). IfSome o (λ t. AdvancesAt old (Ok (Some (offset, entry))) new head (finmap.get t p))) same told)
   where
-    there : (c : Option (List ℕ)) → AdvancesAt old new (Ok (Some (offset, entry))) head c → IsFaultOf e (entry_in meta path head c (offset_of old))
+    there : (c : Option (List ℕ)) → AdvancesAt old (Ok (Some (offset, entry))) new head c → IsFaultOf e (entry_in meta path head c (offset_of old))
     there c h =
         let found = entry_there old new (offset, entry) head c lt stage h in
         let few = short_entry head (offset_of old) c (entry, offset_of new) found.1 in
@@ -76,12 +76,12 @@ next_misfits o old new offset entry kind e head meta given path same lt short fi
 
 pub next_added : (o : Option Tree) (old new : Stage) (offset : ℕ) (entry : Entry) (head : Head) (meta : Meta) (given path : List ℕ) (counts counted : List (List (List ℕ))) → given ≡ path → HasNext old
     → fits meta entry ≡ Ok tt → Grows meta counts counted (entry ∷ [])
-    → Advances old new (Ok (Some (offset, entry))) → IfSome o (λ t. AdvancesAt old new (Ok (Some (offset, entry))) head (finmap.get t given))
+    → Advances old new (Ok (Some (offset, entry))) → IfSome o (λ t. AdvancesAt old (Ok (Some (offset, entry))) new head (finmap.get t given))
     → IfSome o (λ t. (y : Entry × ℕ) × (entry_in meta path head (finmap.get t path) (offset_of old) ≡ Ok y) × ((y.1 ≡ offset_of new) × Grows meta counts counted (y.0 ∷ [])))
 next_added o old new offset entry head meta given path counts counted same lt fit grows stage told =
-    some_also _ _ o (λ t h. there (finmap.get t path) h) (subst (λ (p : List ℕ). IfSome o (λ t. AdvancesAt old new (Ok (Some (offset, entry))) head (finmap.get t p))) same told)
+    some_also _ _ o (λ t h. there (finmap.get t path) h) (subst (λ (p : List ℕ). IfSome o (λ t. AdvancesAt old (Ok (Some (offset, entry))) new head (finmap.get t p))) same told)
   where
-    there : (c : Option (List ℕ)) → AdvancesAt old new (Ok (Some (offset, entry))) head c → (y : Entry × ℕ) × (entry_in meta path head c (offset_of old) ≡ Ok y) × ((y.1 ≡ offset_of new) × Grows meta counts counted (y.0 ∷ []))
+    there : (c : Option (List ℕ)) → AdvancesAt old (Ok (Some (offset, entry))) new head c → (y : Entry × ℕ) × (entry_in meta path head c (offset_of old) ≡ Ok y) × ((y.1 ≡ offset_of new) × Grows meta counts counted (y.0 ∷ []))
     there c h =
         let found = entry_there old new (offset, entry) head c lt stage h in
         ((entry, offset_of new), entry_is meta path head c (offset_of old) (entry, offset_of new) found.1 fit, (refl, grows))

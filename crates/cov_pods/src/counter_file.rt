@@ -75,7 +75,7 @@ fn add_next<F: Files>(
     meta: &Meta,
     counts: &mut Counts,
 ) -> Result<(), PodFault>
-    requires ready { IsReady (F.tree reader.old.files.now) reader.old.path.now reader.old.held reader.old.stage }
+    requires ready { IsReady F.tree reader.old }
     requires left { HasNext reader.old.stage }
     requires path { reader.old.path.now ≡ path.now }
     requires parts { HasShortParts meta.now }
@@ -83,7 +83,7 @@ fn add_next<F: Files>(
     ensures reference { reader.new.files.ghost_name ≡ reader.old.files.ghost_name }
     ensures path { reader.new.path.now ≡ reader.old.path.now }
     ensures head { reader.new.head ≡ reader.old.head }
-    ensures ready { OnOk result (IsReady (F.tree reader.new.files.now) reader.new.path.now reader.new.held reader.new.stage) }
+    ensures ready { OnOk result (IsReady F.tree reader.new) }
     ensures left { OnOk result (IsBefore (left_of reader.old.stage - 1) reader.new.stage) }
     ensures counted { OnOk result (IsCounted meta.now counts.new) }
     ensures told { IfSome (F.tree reader.old.files.now) (λ t. Matches (λ _ y. (y.1 ≡ offset_of reader.new.stage) × Grows meta.now counts.old counts.new (y.0 ∷ [])) result (entry_in meta.now path.now reader.old.head (finmap.get t path.now) (offset_of reader.old.stage))) }
@@ -113,14 +113,14 @@ fn add_entries<F: Files>(
     meta: &Meta,
     counts: &mut Counts,
 ) -> Result<(), PodFault>
-    requires ready { IsReady (F.tree reader.old.files.now) reader.old.path.now reader.old.held reader.old.stage }
+    requires ready { IsReady F.tree reader.old }
     requires left { IsBefore entries reader.old.stage }
     requires path { reader.old.path.now ≡ path.now }
     requires parts { HasShortParts meta.now }
     requires counted { IsCounted meta.now counts.old }
     ensures reference { reader.new.files.ghost_name ≡ reader.old.files.ghost_name }
     ensures path { reader.new.path.now ≡ reader.old.path.now }
-    ensures ready { OnOk result (IsReady (F.tree reader.new.files.now) reader.new.path.now reader.new.held reader.new.stage) }
+    ensures ready { OnOk result (IsReady F.tree reader.new) }
     ensures left { OnOk result (IsBefore 0 reader.new.stage) }
     ensures counted { OnOk result (IsCounted meta.now counts.new) }
     ensures told { IfSome (F.tree reader.old.files.now) (λ t. Matches (λ _ y. (y.1 ≡ offset_of reader.new.stage) × Grows meta.now counts.old counts.new y.0) result (many (entry_in meta.now path.now reader.old.head (finmap.get t path.now)) entries (offset_of reader.old.stage))) }

@@ -1,8 +1,8 @@
-use Rattle.std.proofs.Common.{◌∙◌, refl}
+use Rattle.std.proofs.Common.{◌∙◌}
 use Rattle.std.proofs.lemmas.Result.{err_from_is_err_and}
 use Rattle.cov_bytes.specs.Many.{goes_on, ends, is_done}
 use Rattle.cov_counter.specs.Entry.{number_at}
-use Rattle.cov_counter.specs.Fault.{Fails-further}
+use Rattle.cov_counter.proofs.Loops.{Fails-further}
 use Rattle.cov_counter.proofs.entry.read_counts.Goals as goal
 
 pub returns-in_err-count : goal.returns-in_err-count

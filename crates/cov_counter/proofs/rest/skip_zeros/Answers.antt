@@ -1,7 +1,6 @@
-use Rattle.std.proofs.Common.{◌∙◌, refl}
+use Rattle.std.proofs.Common.{◌∙◌}
 use Rattle.std.proofs.lemmas.Result.{err_from_is_err_and}
-use Rattle.cov_counter.specs.Each.{each-goes_on, each-ends, each-is_done}
-use Rattle.cov_counter.specs.Fault.{Fails-further}
+use Rattle.cov_counter.proofs.Loops.{Fails-further, each-ends, each-goes_on, each-is_done}
 use Rattle.cov_counter.specs.Rest.{behind_zero}
 use Rattle.cov_counter.proofs.rest.skip_zeros.Goals as goal
 

@@ -15,7 +15,7 @@ invariant-loop g l = record {
   reference : l.reader.files.ghost_name ≡ l.fn.reader.files.ghost_name;
   path : l.reader.path.now ≡ l.fn.reader.path.now;
   head : l.reader.head ≡ l.fn.reader.head;
-  ready : IsReady (g.F.Files.tree l.reader.files.now) l.reader.path.now l.reader.held l.reader.stage;
+  ready : IsReady g.F.Files.tree l.reader;
   left : IsBefore (l.entries - l.counter) l.reader.stage;
   counted : IsCounted l.meta l.counts;
   told : IfSome (g.F.Files.tree l.fn.reader.files.now) (SoFar l.meta l.path l.fn.reader.head l.fn.counts l.counts l.entries l.counter (offset_of l.fn.reader.stage) (offset_of l.reader.stage));

@@ -1,4 +1,4 @@
-use Rattle.std.proofs.Common.{◌≡◌, ◌∙◌, ◌<◌, ◌≤◌, ◌-◌, length, sym, arith, rules, vec_len}
+use Rattle.std.proofs.Common.{◌≡◌, ◌∙◌, ◌<◌, ◌≤◌, ◌-◌, length, arith, vec_len}
 use Rattle.std.proofs.lemmas.List.{length-take-le}
 use Rattle.cov_counter.proofs.Fronts.{told_whole, told_part, front_more}
 use Rattle.cov_counter.proofs.held.Held.read.Goals as goal
