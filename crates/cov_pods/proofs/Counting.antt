@@ -1,22 +1,21 @@
 -- What an entry adds to the counts of a pod.
-use Rattle.std.proofs.Common.{◌≡◌, ◌≢◌, ℕ, ◌+◌, ◌<◌, ◌≤◌, Bool, true, false, eqb, List, [], ◌∷◌, ◌++◌, map, length, get_or, set, take, Option, Some, None, Result, Ok, Err, refl, sym, ap, ◌∙◌, subst, arith, min, replicate, cond}
-use Rattle.std.specs.Prelude.{slice_get, slice_index, sum_by, ◌==◌, ◌&&◌, if◌then◌else◌}
+use Rattle.std.proofs.Common.{◌≡◌, ◌≢◌, ℕ, ◌+◌, ◌<◌, Bool, true, false, eqb, List, [], ◌∷◌, ◌++◌, map, length, get_or, set, take, Option, Some, None, Result, Ok, Err, refl, sym, ap, ◌∙◌, subst, arith, min, replicate, cond}
+use Rattle.std.specs.Prelude.{slice_get, slice_index, sum_by, ◌&&◌, if◌then◌else◌}
 use Rattle.std.specs.List.{enumerate_from, range_with_len}
 use Rattle.std.proofs.lemmas.Option.{get_or_from_slice_get, slice_get_within}
-use Rattle.std.proofs.lemmas.List.{set-set, length-set, map_more}
+use Rattle.std.proofs.lemmas.List.{set-set, map_more}
 use Rattle.std.proofs.lemmas.Bool.{eqb-true, eq-eqb, ne_eqb}
 use Rattle.std.proofs.lemmas.List.FromFn.{fill_by_all, length-map-range_with_len, get_or-map-range_with_len}
 use Rattle.std.proofs.lemmas.List.Sums.{sum_by_push}
 use Rattle.cov_bytes.specs.Many.{◌>>=◌}
 use Rattle.cov_outside.specs.Mode.{greatest, combined}
 use Rattle.cov_outside.specs.declared.mode.Mode.{Mode}
-use Rattle.cov_outside.specs.declared.data_kind.DataKind.{DataKind}
 use Rattle.cov_meta.specs.declared.meta.Meta.{Meta}
 use Rattle.cov_meta.specs.declared.meta.MetaPackage.{MetaPackage}
 use Rattle.cov_meta.specs.declared.meta.MetaFunction.{MetaFunction}
 use Rattle.cov_counter.specs.declared.entry.Entry.{Entry}
 use Rattle.cov_pods.specs.Fits.{fits, found_or}
-use Rattle.cov_pods.specs.PodCounts.{counter_of, unit_count, function_counts, package_counts, pod_counts, Grows}
+use Rattle.cov_pods.specs.PodCounts.{counter_of, unit_count, function_counts, package_counts, pod_counts}
 use Rattle.cov_pods.proofs.Made.{map_same, map_alone, map_constant, set_made, made_at}
 
 -- ---- no entries

@@ -1,7 +1,6 @@
 -- Pods whose paths are UTF-8.
-use Rattle.std.proofs.Common.{◌≡◌, ℕ, ◌<◌, List, [], ◌∷◌, ◌++◌, All, length, get_or, set, subst, sym, refl, rules}
+use Rattle.std.proofs.Common.{◌≡◌, ℕ, ◌<◌, List, [], ◌∷◌, ◌++◌, All, length, get_or, set, subst, sym, rules}
 use Rattle.std.specs.Str.{IsUtf8}
-use Rattle.std.specs.Prelude.{codes}
 use Rattle.std.proofs.lemmas.List.Elements.{All-push, All-set, All-get_or}
 use Rattle.std.proofs.lemmas.Str.{IsUtf8-append, IsUtf8-from_ascii}
 use Rattle.cov_pods.specs.declared.pod.Pod.{Pod}

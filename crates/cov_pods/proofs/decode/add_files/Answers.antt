@@ -1,7 +1,7 @@
-use Rattle.std.proofs.Common.{◌≡◌, ◌∙◌, refl, subst, sym}
+use Rattle.std.proofs.Common.{◌∙◌, refl, subst, sym}
 use Rattle.std.specs.Str.{IsUtf8}
 use Rattle.std.proofs.lemmas.Result.{err_from_is_err_and}
-use Rattle.cov_pods.proofs.PodFiles.{nothing_yet, files_fail, files_more, files_done, SoFar}
+use Rattle.cov_pods.proofs.PodFiles.{nothing_yet, files_fail, files_more, files_done}
 use Rattle.cov_pods.proofs.Told.{some_all}
 use Rattle.cov_pods.proofs.decode.add_files.Goals as goal
 
