@@ -6,3 +6,4 @@ pub mod Paths
 pub mod PodCounts
 pub mod Fits
 pub mod Stages
+pub mod CountedPod
