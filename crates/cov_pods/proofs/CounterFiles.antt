@@ -1,8 +1,8 @@
 -- Reading one counter file.
-use Rattle.std.proofs.Common.{◌≡◌, ℕ, ◌+◌, ◌<◌, List, [], ◌∷◌, Option, Some, None, Result, Ok, Err, refl, sym, ap, ◌∙◌, subst}
+use Rattle.std.proofs.Common.{◌≡◌, ℕ, List, Option, Result, Ok, Err, refl, sym, subst}
 use Rattle.std.specs.Prelude.{IfSome}
 use Rattle.std.specs.FinMap as finmap
-use Rattle.cov_bytes.specs.Many.{◌>>=◌, many}
+use Rattle.cov_bytes.specs.Many.{many}
 use Rattle.cov_outside.specs.Tree.{Tree}
 use Rattle.cov_meta.specs.declared.meta.Meta.{Meta}
 use Rattle.cov_meta.specs.declared.meta.MetaFile.{MetaFile}

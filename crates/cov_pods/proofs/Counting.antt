@@ -1,23 +1,22 @@
 -- What an entry adds to the counts of a pod.
-use Rattle.std.proofs.Common.{◌≡◌, ◌≢◌, ℕ, ◌+◌, ◌<◌, ◌≤◌, Bool, true, false, eqb, List, [], ◌∷◌, ◌++◌, map, length, get_or, set, take, Option, Some, None, Result, Ok, Err, refl, sym, ap, ◌∙◌, subst, arith, min, replicate, cond}
-use Rattle.std.specs.Prelude.{slice_get, slice_index, sum_by, ◌==◌, ◌&&◌, if◌then◌else◌}
+use Rattle.std.proofs.Common.{◌≡◌, ◌≢◌, ℕ, ◌+◌, ◌<◌, Bool, true, false, eqb, List, [], ◌∷◌, ◌++◌, map, length, get_or, set, take, Option, Some, None, Result, Ok, Err, refl, sym, ap, ◌∙◌, subst, arith, min, replicate, cond}
+use Rattle.std.specs.Prelude.{slice_get, slice_index, sum_by, ◌&&◌, if◌then◌else◌}
 use Rattle.std.specs.List.{enumerate_from, range_with_len}
 use Rattle.std.proofs.lemmas.Option.{get_or_from_slice_get, slice_get_within}
-use Rattle.std.proofs.lemmas.List.{set-set, length-set, map_more}
+use Rattle.std.proofs.lemmas.List.{set-set, map_more}
 use Rattle.std.proofs.lemmas.Bool.{eqb-true, eq-eqb, ne_eqb}
 use Rattle.std.proofs.lemmas.List.FromFn.{fill_by_all, length-map-range_with_len, get_or-map-range_with_len}
 use Rattle.std.proofs.lemmas.List.Sums.{sum_by_push}
 use Rattle.cov_bytes.specs.Many.{◌>>=◌}
 use Rattle.cov_outside.specs.Mode.{greatest, combined}
 use Rattle.cov_outside.specs.declared.mode.Mode.{Mode}
-use Rattle.cov_outside.specs.declared.data_kind.DataKind.{DataKind}
 use Rattle.cov_meta.specs.declared.meta.Meta.{Meta}
 use Rattle.cov_meta.specs.declared.meta.MetaPackage.{MetaPackage}
 use Rattle.cov_meta.specs.declared.meta.MetaFunction.{MetaFunction}
 use Rattle.cov_counter.specs.declared.entry.Entry.{Entry}
 use Rattle.cov_pods.specs.Fits.{fits, found_or}
-use Rattle.cov_pods.specs.PodCounts.{counter_of, unit_count, function_counts, package_counts, pod_counts, Grows}
-use Rattle.cov_pods.proofs.Made.{map_same, map_alone, map_constant, set_made, made_at}
+use Rattle.cov_pods.specs.PodCounts.{counter_of, unit_count, function_counts, package_counts, pod_counts}
+use Rattle.cov_pods.proofs.Made.{map_made, map_same, map_alone, map_constant, set_made, made_at}
 
 -- ---- no entries
 
@@ -208,3 +207,16 @@ entry_added meta seen e counts open_counts new gap functions open_functions new_
     ∙ functions_set meta.mode seen e at.inside at.function functions sums at.function_is (functions_are meta seen e counts functions at is got) sums_is in
     put_all ∙ ap (λ (cs : List (List (List ℕ))). set cs e.«package» new_functions) taken ∙ set-set counts e.«package» gap new_functions
     ∙ packages_set meta seen e at.inside counts new_functions at.inside_is is functions_is
+
+-- ---- how many counts there are
+
+package_shape : (mode : Mode) (seen : List Entry) (i : ℕ) (p : MetaPackage) → map length (package_counts mode seen (i, p)) ≡ map (λ f. length f.units) p.functions
+unfolding package_counts
+package_shape mode seen i p = map_made (function_counts mode seen i) length (λ (f : MetaFunction). length f.units) (unit_length mode seen i) 0 p.functions
+
+-- one for each unit
+pub one_for_each : (meta : Meta) (seen : List Entry) (counts : List (List (List ℕ))) → counts ≡ pod_counts meta seen
+    → map (λ (functions : List (List ℕ)). map length functions) counts ≡ map (λ p. map (λ f. length f.units) p.functions) meta.packages
+unfolding pod_counts
+one_for_each meta seen counts is =
+    rw is (map_made (package_counts meta.mode seen) (λ (functions : List (List ℕ)). map length functions) (λ (p : MetaPackage). map (λ (f : MetaFunction). length f.units) p.functions) (package_shape meta.mode seen) 0 meta.packages)

@@ -1,8 +1,8 @@
 -- Reading the entries of a counter file one by one.
-use Rattle.std.proofs.Common.{◌≡◌, ℕ, ◌+◌, ◌-◌, ◌<◌, ◌≤◌, ◌^◌, List, [], ◌∷◌, ◌++◌, length, Option, Some, None, Result, Ok, Err, refl, sym, ap, ◌∙◌, subst, arith, append_assoc}
+use Rattle.std.proofs.Common.{◌≡◌, ℕ, ◌+◌, ◌-◌, ◌<◌, ◌≤◌, ◌^◌, List, [], ◌∷◌, ◌++◌, length, Option, Some, Result, Ok, Err, refl, sym, subst, arith, append_assoc}
 use Rattle.std.specs.Prelude.{IfSome}
 use Rattle.std.specs.FinMap as finmap
-use Rattle.cov_bytes.specs.Many.{◌>>=◌, many, with_front, goes_on, ends, is_done}
+use Rattle.cov_bytes.specs.Many.{many, with_front, goes_on, ends, is_done}
 use Rattle.cov_outside.specs.Tree.{Tree}
 use Rattle.cov_outside.specs.declared.data_kind.DataKind.{DataKind}
 use Rattle.cov_meta.specs.declared.meta.Meta.{Meta}
@@ -16,7 +16,7 @@ use Rattle.cov_counter.specs.Reader.{entry_of, Advances, AdvancesAt, IsBefore}
 use Rattle.cov_pods.specs.declared.fault.PodFault.{PodFault}
 use Rattle.cov_pods.specs.declared.fault.PodFault.TheVariants as faults
 use Rattle.cov_pods.specs.Faults.{Becomes, counter_fault}
-use Rattle.cov_pods.specs.Decoding.{IsFaultOf, entry_in, from_counter, from_kind}
+use Rattle.cov_pods.specs.Decoding.{IsFaultOf, entry_in, from_counter}
 use Rattle.cov_pods.specs.Fits.{fits, HasShortParts}
 use Rattle.cov_pods.specs.PodCounts.{Grows, pod_counts}
 use Rattle.cov_pods.specs.Stages.{offset_of, left_of, HasNext}

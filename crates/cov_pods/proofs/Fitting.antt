@@ -1,17 +1,15 @@
 -- Whether an entry fits, from what look-ups gave.
-use Rattle.std.proofs.Common.{◌≡◌, ◌≢◌, ℕ, ◌+◌, ◌<◌, ◌≤◌, ◌^◌, Bool, true, false, eqb, List, length, get_or, Option, Some, None, Result, Ok, Err, refl, sym, ap, ◌∙◌, subst, All}
+use Rattle.std.proofs.Common.{◌≡◌, ◌≢◌, ℕ, ◌<◌, ◌≤◌, ◌^◌, List, length, Some, None, Ok, Err, refl, subst, All}
 use Rattle.std.specs.Prelude.{slice_get, slice_index_or}
 use Rattle.std.proofs.lemmas.Bool.{eq-eqb, ne_eqb}
 use Rattle.std.proofs.lemmas.Option.{slice_get_read, slice_get_past, get_or_from_slice_get, slice_get_within}
 use Rattle.std.proofs.lemmas.List.Elements.{All-get_or}
-use Rattle.cov_bytes.specs.Many.{◌>>=◌}
-use Rattle.cov_outside.specs.declared.data_kind.DataKind.{DataKind}
 use Rattle.cov_outside.specs.declared.data_kind.DataKind.TheVariants as kinds
 use Rattle.cov_meta.specs.declared.meta.Meta.{Meta}
 use Rattle.cov_meta.specs.declared.meta.MetaPackage.{MetaPackage}
 use Rattle.cov_meta.specs.declared.meta.MetaFunction.{MetaFunction}
 use Rattle.cov_counter.specs.declared.entry.Entry.{Entry}
-use Rattle.cov_pods.specs.Fits.{fits, found_or, HasShortParts}
+use Rattle.cov_pods.specs.Fits.{fits, HasShortParts}
 
 -- an item that was looked up
 pub looked_up : {X : Type 0} (xs ys : List X) (i : ℕ) (x : X) → xs ≡ ys → i < length xs → ((d : X) → x ≡ slice_index_or xs i d) → slice_get ys i ≡ Some x

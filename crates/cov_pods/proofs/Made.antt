@@ -1,5 +1,5 @@
 -- Lists that are made from the places and the items of another.
-use Rattle.std.proofs.Common.{◌≡◌, ◌≢◌, ℕ, zero, suc, ◌+◌, ◌<◌, List, [], ◌∷◌, map, length, set, Option, Some, None, refl, sym, ap, ◌∙◌, arith, replicate}
+use Rattle.std.proofs.Common.{◌≡◌, ◌≢◌, ℕ, zero, suc, ◌+◌, ◌<◌, List, [], ◌∷◌, map, set, Option, Some, refl, arith, replicate}
 use Rattle.std.specs.Prelude.{slice_get}
 use Rattle.std.specs.List.{enumerate_from, range_with_len}
 
@@ -49,3 +49,8 @@ made_at f n zero k (z ∷ xs) x at found =
     let here : n ≡ k = omega arith in
     cc
 made_at f n (suc i) k (z ∷ xs) x at found = made_at f (n + 1) i k xs x (omega arith) found
+
+-- what each item becomes
+pub map_made : {A B C : Type 0} (f : ℕ × A → B) (h : B → C) (g : A → C) → ((i : ℕ) (x : A) → h (f (i, x)) ≡ g x) → (n : ℕ) (xs : List A) → map h (map f (enumerate_from n xs)) ≡ map g xs
+map_made f h g e n [] = refl
+map_made f h g e n (x ∷ xs) = let one = e n x in let more = map_made f h g e (n + 1) xs in cc

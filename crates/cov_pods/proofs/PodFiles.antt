@@ -1,5 +1,5 @@
 -- Reading all files of a pod.
-use Rattle.std.proofs.Common.{◌≡◌, ℕ, suc, ◌+◌, ◌<◌, ◌≤◌, List, [], ◌∷◌, ◌++◌, map, length, drop, get_or, Option, Some, None, Result, Ok, Err, refl, sym, ap, ◌∙◌, subst, append_assoc}
+use Rattle.std.proofs.Common.{◌≡◌, ℕ, ◌+◌, ◌<◌, ◌≤◌, List, [], ◌∷◌, ◌++◌, map, length, drop, get_or, Option, Result, Ok, Err, refl, sym, ap, ◌∙◌, subst, append_assoc}
 use Rattle.std.specs.Prelude.{IfSome, flat_map}
 use Rattle.std.specs.FinMap as finmap
 use Rattle.std.proofs.lemmas.List.{drop_more, drop_all, append-nil, map-append}
@@ -8,11 +8,9 @@ use Rattle.cov_bytes.specs.Many.{◌>>=◌}
 use Rattle.cov_outside.specs.Tree.{Tree}
 use Rattle.cov_outside.specs.Whole.{whole_file}
 use Rattle.cov_outside.specs.declared.mode.Mode.{Mode}
-use Rattle.cov_meta.specs.declared.meta.Meta.{Meta}
 use Rattle.cov_meta.specs.declared.meta.MetaFile.{MetaFile}
 use Rattle.cov_counter.specs.declared.entry.Entry.{Entry}
 use Rattle.cov_counter.specs.declared.head.Head.{Head}
-use Rattle.cov_pods.specs.declared.decoded.DecodedPod.{DecodedPod}
 use Rattle.cov_pods.specs.declared.fault.PodFault.{PodFault}
 use Rattle.cov_pods.specs.declared.pod.Pod.{Pod}
 use Rattle.cov_pods.specs.Decoding.{Fails, IsFaultOf, counters_in, all_counters, from_whole, meta_in, meta_file_in, decoded}

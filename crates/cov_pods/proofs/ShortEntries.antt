@@ -1,10 +1,9 @@
 -- How many counters an entry has.
-use Rattle.std.proofs.Common.{◌≡◌, ℕ, zero, suc, ◌+◌, ◌<◌, ◌≤◌, ◌^◌, List, [], ◌∷◌, length, Option, Some, None, Result, Ok, Err, refl, sym, ap, ◌∙◌, subst, arith}
+use Rattle.std.proofs.Common.{◌≡◌, ℕ, zero, suc, ◌<◌, ◌≤◌, ◌^◌, List, [], ◌∷◌, length, Option, Result, Ok, Err, refl, sym, ap, ◌∙◌, subst, arith}
 use Rattle.std.specs.Prelude.{Bool, true, false, nat_lt, if◌then◌else◌}
 use Rattle.std.proofs.lemmas.Bool.{ltb-false}
-use Rattle.cov_bytes.specs.Many.{◌>>=◌, many}
+use Rattle.cov_bytes.specs.Many.{many}
 use Rattle.cov_outside.specs.declared.limit.Which.TheVariants.{Units}
-use Rattle.cov_counter.specs.declared.fault.CounterFault.{CounterFault}
 use Rattle.cov_counter.specs.declared.fault.CounterFault.TheVariants.{Limit}
 use Rattle.cov_counter.specs.declared.head.Head.{Head}
 use Rattle.cov_counter.specs.declared.entry.Entry.{Entry}

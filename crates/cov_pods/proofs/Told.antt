@@ -1,8 +1,6 @@
 -- What a fault of a file says of the pod.
-use Rattle.std.proofs.Common.{◌≡◌, ℕ, List, Option, Some, None, Result, Ok, Err, refl, ap, sym, ◌∙◌, subst}
+use Rattle.std.proofs.Common.{◌≡◌, ℕ, List, Option, Some, None, Result, Err, ap, subst}
 use Rattle.std.specs.Prelude.{IfSome}
-use Rattle.cov_bytes.specs.Many.{◌>>=◌}
-use Rattle.cov_outside.specs.declared.data_kind.DataKind.{DataKind}
 use Rattle.cov_outside.specs.declared.whole.WholeFault.{WholeFault}
 use Rattle.cov_outside.specs.declared.whole.WholeFault.TheVariants as whole
 use Rattle.cov_outside.specs.Whole as outside
@@ -12,7 +10,7 @@ use Rattle.cov_counter.specs.Outside as reader
 use Rattle.cov_pods.specs.declared.fault.PodFault.{PodFault}
 use Rattle.cov_pods.specs.declared.fault.PodFault.TheVariants as faults
 use Rattle.cov_pods.specs.Faults.{Becomes, whole_fault, counter_fault}
-use Rattle.cov_pods.specs.Decoding.{Fails, Gives, IsFaultOf, Matches, from_whole, from_counter}
+use Rattle.cov_pods.specs.Decoding.{Fails, IsFaultOf, from_whole, from_counter}
 
 -- ---- facts of a tree that may not be known
 

@@ -18,7 +18,7 @@ use Rattle.cov_counter.specs.declared.entry.Entry.{Entry}
 use Rattle.cov_counter.specs.declared.fault.CounterFault.{CounterFault}
 use Rattle.cov_counter.specs.declared.head.Head.{Head}
 use Rattle.cov_counter.specs.Reader.{start_of, entry_of, end_of}
-use Rattle.cov_pods.specs.declared.decoded.DecodedPod.{DecodedPod}
+use Rattle.cov_pods.specs.CountedPod.{CountedPod}
 use Rattle.cov_pods.specs.declared.fault.PodFault.{PodFault}
 use Rattle.cov_pods.specs.declared.fault.PodFault.TheVariants as faults
 use Rattle.cov_pods.specs.declared.pod.Pod.{Pod}
@@ -116,7 +116,7 @@ all_counters file tree (path ∷ paths) = do
   Ok (first ∷ others)
 
 -- a pod: its meta file, and what its counter files count together
-unfoldable pub decoded : Tree → Pod → Option Mode → Result DecodedPod PodFault
+unfoldable pub decoded : Tree → Pod → Option Mode → Result CountedPod PodFault
 decoded tree pod wanted = do
   meta ← meta_file_in pod.meta wanted (finmap.get tree pod.meta)
   counters ← all_counters meta.1 tree pod.counters

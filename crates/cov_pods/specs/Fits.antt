@@ -1,5 +1,5 @@
 -- Which entries of counter files fit a meta value.
-use Rattle.std.specs.Prelude.{◌≡◌, ℕ, ◌<◌, ◌^◌, List, length, All, Option, Some, None, Result, Ok, Err, slice_get, if◌then◌else◌, ◌==◌}
+use Rattle.std.specs.Prelude.{◌<◌, ◌^◌, length, All, Option, Some, None, Result, Ok, Err, slice_get, if◌then◌else◌, ◌==◌}
 use Rattle.cov_bytes.specs.Many.{◌>>=◌}
 use Rattle.cov_outside.specs.declared.data_kind.DataKind.{DataKind}
 use Rattle.cov_outside.specs.declared.data_kind.DataKind.TheVariants as kinds

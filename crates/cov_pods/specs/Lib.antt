@@ -7,3 +7,4 @@ pub mod Paths
 pub mod PodCounts
 pub mod Pods
 pub mod Stages
+pub mod CountedPod

@@ -1,5 +1,5 @@
 -- How often each unit of a meta value was counted.
-use Rattle.std.specs.Prelude.{◌≡◌, ℕ, ◌+◌, ◌++◌, min, List, length, map, sum_by, slice_index, if◌then◌else◌, ◌==◌, ◌&&◌}
+use Rattle.std.specs.Prelude.{◌≡◌, ℕ, ◌++◌, min, List, length, map, sum_by, slice_index, if◌then◌else◌, ◌==◌, ◌&&◌}
 use Rattle.std.specs.List.{enumerate_from, range_with_len}
 use Rattle.cov_outside.specs.declared.mode.Mode.{Mode}
 use Rattle.cov_outside.specs.Mode.{greatest}

@@ -1,5 +1,5 @@
 //! Reading the files of a pod.
-ghost use Rattle.std.specs.Prelude.{◌≡◌, All, IfSome, IfOk, OnOk, map, flat_map};
+ghost use Rattle.std.specs.Prelude.{◌≡◌, All, IfSome, IfOk, OnOk, length, map, flat_map};
 ghost use Rattle.std.specs.FinMap as finmap;
 ghost use Rattle.std.specs.Str.{IsUtf8};
 ghost use Rattle.cov_outside.specs.Whole.{whole_file};
@@ -87,6 +87,8 @@ fn add_files<F: Files>(
     requires utf8 { All IsUtf8 paths.now }
     requires parts { HasShortParts file.now.meta }
     requires counted { IsCounted file.now.meta counts.old }
+    ensures counted { OnOk result (IsCounted file.now.meta counts.new) }
+    ensures heads { IfOk result (λ heads. length heads.items ≡ length paths.now) }
     ensures told { IfSome (F.tree files.old) (λ t. Matches (λ heads y. (heads.items ≡ map (λ c. c.0) y) × Grows file.now.meta counts.old counts.new (flat_map (λ c. c.1) y)) result (all_counters file.now t paths.now)) }
     ensures same { F.tree files.new ≡ F.tree files.old }
     ensures cause { CountsRead (F.read_faults files.old) (F.read_faults files.new) result }
@@ -128,6 +130,8 @@ fn count_files<F: Files>(
 ) -> Result<(Counts, Vec<Head>), PodFault>
     requires utf8 { All IsUtf8 paths.now }
     requires parts { HasShortParts file.now.meta }
+    ensures counted { IfOk result (λ x. IsCounted file.now.meta x.0) }
+    ensures heads { IfOk result (λ x. length x.1.items ≡ length paths.now) }
     ensures told { IfSome (F.tree files.old) (λ t. Matches (λ x y. (x.0 ≡ pod_counts file.now.meta (flat_map (λ c. c.1) y)) × (x.1.items ≡ map (λ c. c.0) y)) result (all_counters file.now t paths.now)) }
     ensures same { F.tree files.new ≡ F.tree files.old }
     ensures cause { CountsRead (F.read_faults files.old) (F.read_faults files.new) result }

@@ -1,4 +1,4 @@
-use Rattle.std.proofs.Common.{◌≡◌, ◌∙◌, ap, sym}
+use Rattle.std.proofs.Common.{◌∙◌}
 use Rattle.std.proofs.lemmas.Result.{err_from_is_err_and}
 use Rattle.cov_pods.specs.Stages.{offset_of}
 use Rattle.cov_pods.proofs.Entries.{entries_fail, entries_more, entries_done, one_less}

@@ -1,11 +1,7 @@
-use Rattle.std.proofs.Common.{◌≡◌, ◌-◌, List}
+use Rattle.std.proofs.Common.{◌≡◌, ◌-◌}
 use Rattle.std.specs.Prelude.{IfSome}
-use Rattle.std.specs.FinMap as finmap
-use Rattle.cov_bytes.specs.Many.{many, with_front}
-use Rattle.cov_counter.specs.declared.entry.Entry.{Entry}
 use Rattle.cov_counter.specs.Reader.{IsReady, IsBefore}
-use Rattle.cov_pods.specs.Decoding.{entry_in}
-use Rattle.cov_pods.specs.PodCounts.{IsCounted, Grows}
+use Rattle.cov_pods.specs.PodCounts.{IsCounted}
 use Rattle.cov_pods.proofs.Entries.{SoFar}
 use Rattle.cov_pods.specs.Stages.{offset_of}
 use Rattle.cov_pods.proofs.counter_file.add_entries.Given as goal

@@ -1,4 +1,4 @@
-use Rattle.std.proofs.Common.{◌≡◌, ◌∙◌, ap, sym}
+use Rattle.std.proofs.Common.{◌∙◌, ap}
 use Rattle.std.proofs.lemmas.Result.{err_from_is_err_and}
 use Rattle.cov_pods.specs.Stages.{offset_of}
 use Rattle.cov_pods.proofs.CounterFiles.{start_fails, starts, hash_fails, entries_of_file_fail, end_fails, file_added}

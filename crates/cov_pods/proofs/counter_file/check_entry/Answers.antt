@@ -1,4 +1,4 @@
-use Rattle.std.proofs.Common.{◌≡◌, ◌∙◌, ap, sym, length}
+use Rattle.std.proofs.Common.{◌∙◌, ap, sym, length}
 use Rattle.cov_pods.proofs.Fitting.{looked_up, not_there, bad_package, bad_function, bad_count, good, short_functions, short_units}
 use Rattle.cov_pods.proofs.counter_file.check_entry.Goals as goal
 

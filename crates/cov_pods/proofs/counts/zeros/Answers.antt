@@ -1,6 +1,5 @@
-use Rattle.std.proofs.Common.{◌≡◌, ◌≤◌, ◌∙◌, ap, sym, length, map, List, arith}
+use Rattle.std.proofs.Common.{◌≤◌, ◌∙◌, ap, sym, length, map, arith}
 use Rattle.std.proofs.lemmas.List.{take_all}
-use Rattle.cov_meta.specs.declared.meta.MetaPackage.{MetaPackage}
 use Rattle.cov_pods.proofs.Counting.{no_entries, zeros_in, zeros_more}
 use Rattle.cov_pods.proofs.counts.zeros.Goals as goal
 

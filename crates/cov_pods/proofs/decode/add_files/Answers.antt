@@ -1,7 +1,8 @@
-use Rattle.std.proofs.Common.{◌≡◌, ◌∙◌, refl, subst, sym}
+use Rattle.std.proofs.Common.{ap, length, ℕ, ◌+◌, ◌∙◌, refl, subst, sym}
 use Rattle.std.specs.Str.{IsUtf8}
+use Rattle.std.proofs.lemmas.List.{length_push}
 use Rattle.std.proofs.lemmas.Result.{err_from_is_err_and}
-use Rattle.cov_pods.proofs.PodFiles.{nothing_yet, files_fail, files_more, files_done, SoFar}
+use Rattle.cov_pods.proofs.PodFiles.{nothing_yet, files_fail, files_more, files_done}
 use Rattle.cov_pods.proofs.Told.{some_all}
 use Rattle.cov_pods.proofs.decode.add_files.Goals as goal
 
@@ -11,6 +12,7 @@ add_file-requires-clause-utf8 g c = subst IsUtf8 (sym c.path-item.is) (c.require
 pub loop-path-init : goal.loop-path-init
 loop-path-init g c = record {
   counted = c.requires.counted;
+  heads = ap length c.new-heads.ensures.items;
   told = some_all _ _ (λ t. nothing_yet c.args.file.now c.args.counts.now c.new-heads.result.items c.args.paths.now t c.new-heads.ensures.items);
   same = refl;
   reads = refl;
@@ -23,6 +25,7 @@ loop-path-preserved g c =
     let e = c.in_ok-add_file.ensures in
     record {
       counted = e.counted;
+      heads = ap length c.in_ok-push.ensures.items ∙ length_push c.loop-path.heads.items c.in_ok-add_file.field-0 ∙ ap (λ (n : ℕ). n + 1) i.heads;
       told = files_more _ _ c.args.file.now c.args.counts.now c.loop-path.counts c.add_file.new.counts c.loop-path.heads.items c.push.new.self.items c.in_ok-add_file.field-0 c.args.paths.now c.loop-path.path-index c.path-item.result
           i.same c.loop-path-test.true c.path-item.is c.in_ok-push.ensures.items i.told e.told;
       same = e.same ∙ i.same;

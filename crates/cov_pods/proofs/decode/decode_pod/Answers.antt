@@ -1,6 +1,8 @@
-use Rattle.std.proofs.Common.{All, subst, sym}
+use Rattle.std.proofs.Common.{◌∙◌, All, ap, length, subst, sym}
 use Rattle.std.specs.Str.{IsUtf8}
 use Rattle.std.proofs.lemmas.Result.{err_from_is_err_and}
+use Rattle.cov_pods.specs.declared.pod.Pod.{Pod}
+use Rattle.cov_pods.proofs.Counting.{one_for_each}
 use Rattle.cov_pods.proofs.PodFiles.{pod_meta_fails, pod_counters_fail, pod_decoded}
 use Rattle.cov_pods.proofs.decode.decode_pod.Goals as goal
 
@@ -22,3 +24,9 @@ pub returns-clause-told : goal.returns-clause-told
 returns-clause-told g c =
     pod_decoded _ _ c.args.pod.now c.in_ok-copy.field-0 c.args.wanted c.in_ok-bytes.bytes.items c.from_vec.result c.in_ok-bytes.file c.in_ok-counts.counts c.in_ok-counts.heads.items c.from_vec-2.result c.as_slice.result.now
     c.in_ok-bytes.ensures.same c.as_slice.ensures c.in_ok-copy.ensures c.from_vec.ensures c.from_vec-2.ensures c.in_ok-bytes.ensures.told c.in_ok-counts.ensures.told
+
+pub invariant_of-result : goal.invariant_of-result
+invariant_of-result g c = record {
+  each_unit = one_for_each c.in_ok-bytes.file.meta c.in_ok-counts.ensures.counted.0 c.in_ok-counts.counts c.in_ok-counts.ensures.counted.1;
+  each_file = ap length c.from_vec-2.ensures ∙ c.in_ok-counts.ensures.heads ∙ ap length c.as_slice.ensures ∙ sym (ap (λ (p : Pod). length p.counters) c.in_ok-copy.ensures);
+}

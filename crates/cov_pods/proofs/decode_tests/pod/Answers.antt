@@ -1,4 +1,4 @@
-use Rattle.std.proofs.Common.{All, [], length, ◌<◌, subst, sym, List, ℕ, arith}
+use Rattle.std.proofs.Common.{All, [], subst, sym, arith}
 use Rattle.std.specs.Str.{IsUtf8}
 use Rattle.std.proofs.lemmas.List.Elements.{All-push}
 use Rattle.cov_pods.proofs.decode_tests.pod.Goals as goal
