@@ -6,7 +6,7 @@ ghost use Rattle.cov_table.specs.Coverage.{package_counts, counts_of, package_of
 use crate::row::{PackageRow, Row};
 use cov_bytes::StringTable;
 use cov_meta::{MetaFunction, MetaPackage};
-use cov_outside::{NoMemory, Sequence};
+use cov_outside::{Mode, NoMemory, Sequence};
 use cov_pods::DecodedPod;
 use std::alloc::{AllocError, Global};
 
@@ -109,6 +109,25 @@ pub struct Gathered {
     pub packages: Vec<PackageRow>,
 }
 
+/// The mode of a pod.
+pub fn mode_of(pod: &DecodedPod) -> Mode
+    ensures { result ≡ pod.now.file.meta.mode }
+{
+    pod.file.meta.mode
+}
+
+fn packages_in(pod: &DecodedPod) -> &[MetaPackage]
+    ensures { result.now ≡ pod.now.file.meta.packages }
+{
+    pod.file.meta.packages.as_slice()
+}
+
+fn counts_in(pod: &DecodedPod) -> &[Sequence<Sequence<u32>>]
+    ensures { result.now ≡ pod.now.counts }
+{
+    pod.counts.as_slice()
+}
+
 /// The rows of a pod.
 pub fn gather_pod(
     alloc: Global,
@@ -120,8 +139,8 @@ pub fn gather_pod(
 {
     let mut rows = Vec::new(alloc);
     let mut packages = Vec::new(alloc);
-    let from = pod.file.meta.packages.as_slice();
-    add_counts(texts, &mut rows, from, pod.counts.as_slice())?;
+    let from = packages_in(pod);
+    add_counts(texts, &mut rows, from, counts_in(pod))?;
     add_packages(texts, &mut packages, from)?;
     Ok(Gathered { rows, packages })
 }

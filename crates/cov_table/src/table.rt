@@ -4,7 +4,7 @@ ghost use Rattle.std.specs.FinMap as finmap;
 ghost use Rattle.cov_table.specs.Coverage.{empty, with_pod, merged};
 ghost use Rattle.cov_table.specs.Refusal.{ClashesExactly};
 
-use crate::gather::{Gathered, gather_pod};
+use crate::gather::{Gathered, gather_pod, mode_of};
 use crate::package_order::{first_packages, settle_packages, sort_packages};
 use crate::packages::Packages;
 use crate::refusal::{TableRefusal, agree};
@@ -97,7 +97,7 @@ impl Table {
         ensures clash { ClashesExactly result self.old.mode (Some pod.now.file.meta.mode) }
         ensures err { OnErr result (self.new ≡ self.old) }
     {
-        let mode = pod.file.meta.mode;
+        let mode = mode_of(pod);
         agree(self.mode, Some(mode))?;
         self.settle()?;
         let more = gather_pod(self.alloc, &mut self.texts, pod)?;

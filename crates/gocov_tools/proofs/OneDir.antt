@@ -1,6 +1,5 @@
 -- One directory with its names.
-use Rattle.std.proofs.Common.{◌≡◌, ℕ, zero, suc, List, [], ◌∷◌, All, subst, sym, arith}
-use Rattle.std.specs.Str.{IsUtf8}
+use Rattle.std.proofs.Common.{zero, suc, [], ◌∷◌, All, arith}
 use Rattle.cov_pods.specs.declared.pod.DirNames.{DirNames}
 use Rattle.cov_pods.specs.Paths.{AreTextNames}
 

@@ -1,5 +1,5 @@
 -- What a command answers is what its words and the tree say.
-use Rattle.std.proofs.Common.{◌≡◌, ◌≢◌, ℕ, List, [], ◌∷◌, Option, Some, None, Result, Ok, Err, inl, inr, refl, sym, ap, subst, ◌∙◌}
+use Rattle.std.proofs.Common.{◌≡◌, ℕ, List, [], ◌∷◌, Option, Some, None, Result, Ok, Err, inl, inr, sym, ap, subst, ◌∙◌}
 use Rattle.std.specs.Prelude.{IfSome, IsOk}
 use Rattle.std.specs.FinMap as finmap
 use Rattle.cov_outside.specs.Faults.{Count, Rose}

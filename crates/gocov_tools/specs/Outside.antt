@@ -1,5 +1,5 @@
 -- What a command does to the objects of the outside, whatever it answers.
-use Rattle.std.specs.Prelude.{◌≡◌, ◌⊎◌, ℕ, List, Option, Result, Ok, Err}
+use Rattle.std.specs.Prelude.{◌≡◌, ◌⊎◌, Option, Result, Ok, Err}
 use Rattle.cov_outside.specs.Faults.{Count, Rose}
 use Rattle.cov_outside.specs.Tree.{Tree}
 use Rattle.gocov_tools.specs.declared.refusal.Refusal.{Refusal}

@@ -25,8 +25,10 @@ invariant_of-self-2 c = more_table _ _ _ _ _ _ _ _ _ _ _ _ c.gather_pod.ensures.
 pub returns-clause-ok : goal.returns-clause-ok
 returns-clause-ok c =
     let pod = c.args.pod.now in
+    let mode = c.mode_of-mode.result in
     let before : coverage_of c.self-2.inside.mode c.self-2.inside.texts c.self-2.inside.rows.items c.self-2.inside.packages.items ≡ c.args.self.now = c.self-2.view_is ∙ c.in_ok-settle.ensures in
     let modes : c.self.inside.mode ≡ c.self-2.inside.mode = ap (λ (t : Coverage). t.mode) (c.self.view_is ∙ sym before) in
-    let agree : Agree c.self-2.inside.mode (Some pod.file.meta.mode) = subst (λ (m : Option Mode). Agree m (Some pod.file.meta.mode)) modes c.in_ok-agree.ensures in
+    let agree : Agree c.self-2.inside.mode (Some mode) = subst (λ (m : Option Mode). Agree m (Some mode)) modes c.in_ok-agree.ensures in
     more_coverage _ _ _ _ _ _ _ _ _ _ _ _ c.gather_pod.ensures.kept c.self-2.invariant c.in_ok-more.ensures.added agree c.in_ok-append.ensures.rows c.in_ok-append.ensures.packages
-    ∙ ap (λ (t : Coverage). extended t pod.file.meta.mode (counts_of pod.file.meta.packages pod.counts) (map package_of pod.file.meta.packages)) before
+    ∙ ap (λ (t : Coverage). extended t mode (counts_of pod.file.meta.packages pod.counts) (map package_of pod.file.meta.packages)) before
+    ∙ ap (λ (m : Mode). extended c.args.self.now m (counts_of pod.file.meta.packages pod.counts) (map package_of pod.file.meta.packages)) c.mode_of-mode.ensures
