@@ -22,7 +22,8 @@ pub struct Pod {
     pub counters: Sequence<Text>,
 }
 
-fn copy_texts(alloc: Global, texts: &[Text]) -> Result<Sequence<Text>, NoMemory>
+/// Equal texts.
+pub fn copy_texts(alloc: Global, texts: &[Text]) -> Result<Sequence<Text>, NoMemory>
     ensures { IfOk result (λ copies. copies ≡ texts.now) }
 {
     let mut copies = Sequence::new(alloc);

@@ -40,10 +40,10 @@ profile patterns dir t = do
   pod ← built (only_pod (pods_of (record { dir = dir; names = names_in dir t } ∷ [])))
   profile_of_pod patterns pod t
 
--- a path, and the text profile of a directory
-unfoldable pub put_profile_of : List ℕ → List ℕ → Tree → Result (List ℕ × List ℕ) Refusal
-put_profile_of path dir t = do
-  text ← profile [] dir t
+-- a path, and the text profile of a directory, with the packages that patterns keep
+unfoldable pub put_profile_of : List (List ℕ) → List ℕ → List ℕ → Tree → Result (List ℕ × List ℕ) Refusal
+put_profile_of patterns path dir t = do
+  text ← profile patterns dir t
   Ok (path, text)
 
 -- the path that a command of covdata puts, and its bytes
@@ -51,7 +51,7 @@ unfoldable pub put_of : DataRequest → Tree → Result (List ℕ × List ℕ) R
 put_of request t = do
   path ← built request.out
   dir ← built (only_dir request.dirs)
-  put_profile_of path dir t
+  put_profile_of request.pkg path dir t
 
 -- what is asked of covdata
 abbrev pub asked : Result Command WordsFault → Result DataRequest Refusal

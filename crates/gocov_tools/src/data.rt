@@ -11,10 +11,11 @@ ghost use Rattle.gocov_tools.specs.Refusals.{answer_of};
 use crate::profile::profile_of;
 use crate::refusal::Refusal;
 use crate::status::Status;
-use cov_outside::{Files, FilesFault, Sequence, Sink, Stamp, Text};
+use cov_outside::{Files, FilesFault, Sink, Stamp, Text};
+use cov_pods::copy_texts;
 use cov_report::Filter;
 use gocov_words::DataArgs;
-use std::alloc::Global;
+use std::alloc::{AllocError, Global};
 
 fn status_of(refusal: Refusal) -> Status
     ensures { result ≡ answer_of refusal }
@@ -55,19 +56,22 @@ fn only_dir(dirs: &[Text]) -> Option<&Text>
     }
 }
 
-/// Puts the text profile of a directory.
+/// Puts the text profile of a directory, with the packages that the filter keeps.
 #[tactic(auto, unfolding(crate::specs::Command::put_profile_of))]
-fn put_profile<F: Files>(alloc: Global, files: &mut F, dir: &Text, path: &Text) -> Status
+fn put_profile<F: Files>(
+    alloc: Global,
+    files: &mut F,
+    dir: &Text,
+    path: &Text,
+    filter: &Filter,
+) -> Status
     requires dir { IsUtf8 dir.now }
     requires path { IsUtf8 path.now }
-    ensures told { IfSome (F.tree files.old) (λ t. Leaves result (put_profile_of path.now dir.now t) t (F.tree files.new)) }
+    ensures told { IfSome (F.tree files.old) (λ t. Leaves result (put_profile_of filter.now.patterns path.now dir.now t) t (F.tree files.new)) }
     ensures causes { Causes result (F.read_faults files.old) (F.read_faults files.new) (F.put_faults files.old) (F.put_faults files.new) }
     ensures kept { KeepsTree result (F.tree files.old) (F.tree files.new) }
 {
-    let filter = Filter {
-        patterns: Sequence::new(alloc),
-    };
-    match profile_of(alloc, files, dir, &filter) {
+    match profile_of(alloc, files, dir, filter) {
         Ok(text) => put_last(files, path, &text),
         Err(refusal) => status_of(refusal),
     }
@@ -91,8 +95,11 @@ pub fn covdata<F: Files, O: Sink>(
     let Some(path) = &args.out else {
         return Status::NotBuilt;
     };
-    match only_dir(args.dirs.as_slice()) {
-        Some(dir) => put_profile(alloc, files, dir, path),
-        None => Status::NotBuilt,
+    let Some(dir) = only_dir(args.dirs.as_slice()) else {
+        return Status::NotBuilt;
+    };
+    match copy_texts(alloc, args.pkg.as_slice()) {
+        Ok(patterns) => put_profile(alloc, files, dir, path, &Filter { patterns }),
+        Err(AllocError) => Status::NoMemory,
     }
 }

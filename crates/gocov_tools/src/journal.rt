@@ -1,4 +1,6 @@
 //! What a run did.
+ghost use Rattle.std.specs.Prelude.{◌≡◌, [], None};
+
 use cov_outside::{Sequence, Text};
 use std::alloc::Global;
 
@@ -44,7 +46,9 @@ pub struct Journal {
 
 impl Journal {
     /// The journal of no run.
-    pub fn new(alloc: Global) -> Journal {
+    pub fn new(alloc: Global) -> Journal
+        ensures { result ≡ record { events = []; words = []; end = None } }
+    {
         Journal {
             events: Sequence::new(alloc),
             words: Sequence::new(alloc),

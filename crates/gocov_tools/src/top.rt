@@ -56,7 +56,7 @@ pub fn gocov<R: Threads + Wait + Sync, F: Files, O: Sink, E: Sink, G: Gate>(
     ensures causes { TopCauses result (F.read_faults files.old) (F.read_faults files.new) (F.put_faults files.old) (F.put_faults files.new) (E.faults err.old) (E.faults err.new) }
     ensures kept { KeepsTree result (F.tree files.old) (F.tree files.new) }
     ensures line { HasLine result (E.faults err.old) (E.faults err.new) (E.contents err.old) (E.contents err.new) }
-    ensures part { (status : Status) × HasPart (line_of status) (E.contents err.old) (E.contents err.new) }
+    ensures part { (status : Status) × IfSome (F.tree files.old) (λ t. Leaves status (command (map (λ w. w.now) words.now) t) t (F.tree files.new)) × HasPart (line_of status) (E.contents err.old) (E.contents err.new) }
     ensures out { O.contents out.new ≡ O.contents out.old }
     ensures outs { O.faults out.new ≡ O.faults out.old }
     ensures journal { journal.new ≡ journal.old }

@@ -10,4 +10,4 @@ pub returns-clause-complete : goal.returns-clause-complete
 returns-clause-complete g c = told_complete (g.F.Files.tree c.args.files.now) _ (command (map (λ w. w.now) c.args.words.now)) _ _ _ _ _ _ _ (returns-clause-told g c) (finished c.answer-status.result _ _ _ _ _ _ _ c.finish.ensures.answer c.answer-status.ensures.causes)
 
 pub returns-clause-part : goal.returns-clause-part
-returns-clause-part g c = (c.answer-status.result, c.finish.ensures.part)
+returns-clause-part g c = (c.answer-status.result, c.answer-status.ensures.told, c.finish.ensures.part)
