@@ -7,7 +7,7 @@ PROFILE ?= $(CURDIR)/profile.txt
 
 # The main job on an example: the text profile of a pod.
 demo:
-	rt run gocov -- covdata textfmt -i=$(POD) -o=$(PROFILE)
+	cd crates/gocov && rt run -- covdata textfmt -i=$(POD) -o=$(PROFILE)
 	cat $(PROFILE)
 
 # Every proof, must-fail edit, test and program, from nothing.
@@ -16,5 +16,5 @@ test:
 
 # Proves, builds and copies the program.
 install:
-	rt run gocov -- covdata textfmt -i=$(POD) -o=$(PROFILE)
+	cd crates/gocov && rt run -- covdata textfmt -i=$(POD) -o=$(PROFILE)
 	install -D -m 755 crates/gocov/out/gocov $(PREFIX)/bin/gocov
