@@ -15,7 +15,7 @@ pub struct File {
     pub counts: u32,
 }
 
-/// An import: the path between the quotes, and the offset of the literal.
+/// An import: the path, which is the value of its literal, and the offset of the literal.
 #[derive(Debug, Drop)]
 pub struct Import {
     pub path: Text,
