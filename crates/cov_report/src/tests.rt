@@ -1,3 +1,6 @@
+ghost use Rattle.std.specs.Prelude.{◌≡◌, IfOk, length};
+ghost use Rattle.cov_pods.specs.CountedPod.{IsWhole};
+
 use super::*;
 use crate::share::push_percent;
 use cov_meta::{Meta, MetaFile, MetaFunction, MetaPackage, MetaUnit, Place2};
@@ -21,7 +24,9 @@ fn place(line: u32, column: u32) -> Place2 {
 }
 
 /// A function `main` with units, and their counts.
-fn function(alloc: Global, shown: &[Shown]) -> Result<(MetaFunction, Sequence<u32>), NoMemory> {
+fn function(alloc: Global, shown: &[Shown]) -> Result<(MetaFunction, Sequence<u32>), NoMemory>
+    ensures { IfOk result (λ r. length r.1 ≡ length r.0.units) }
+{
     let mut units = Sequence::new(alloc);
     let mut counts = Sequence::new(alloc);
     for (line, column, end_line, end_column, statements, count) in shown {

@@ -1,3 +1,6 @@
+ghost use Rattle.std.specs.Prelude.{◌≡◌, IfOk, length, map};
+ghost use Rattle.cov_pods.specs.CountedPod.{IsWhole};
+
 use super::*;
 use cov_meta::{Meta, MetaFile, MetaFunction, MetaPackage, MetaUnit, Place2};
 use cov_outside::{Mode, NoMemory, Sequence, Text};
@@ -19,7 +22,9 @@ fn unit(line: u32) -> MetaUnit {
     }
 }
 
-fn function(alloc: Global, lines: &Lines) -> Result<(MetaFunction, Sequence<u32>), NoMemory> {
+fn function(alloc: Global, lines: &Lines) -> Result<(MetaFunction, Sequence<u32>), NoMemory>
+    ensures { IfOk result (λ r. length r.1 ≡ length r.0.units) }
+{
     let mut units = Sequence::new(alloc);
     let mut counts = Sequence::new(alloc);
     for (line, count) in lines.units {
@@ -35,6 +40,29 @@ fn function(alloc: Global, lines: &Lines) -> Result<(MetaFunction, Sequence<u32>
     Ok((function, counts))
 }
 
+fn package(
+    alloc: Global,
+    package_path: &[u8],
+    lines: &[Lines],
+) -> Result<(MetaPackage, Sequence<Sequence<u32>>), NoMemory>
+    ensures { IfOk result (λ r. map length r.1 ≡ map (λ f. length f.units) r.0.functions) }
+{
+    let mut functions = Sequence::new(alloc);
+    let mut by_function = Sequence::new(alloc);
+    for lines in lines {
+        let (function, counts) = function(alloc, lines)?;
+        functions.push(function)?;
+        by_function.push(counts)?;
+    }
+    let package = MetaPackage {
+        name: Text::of(alloc, b"main")?,
+        path: Text::of(alloc, package_path)?,
+        module: Text::of(alloc, b"m")?,
+        functions,
+    };
+    Ok((package, by_function))
+}
+
 /// A pod with one package.
 fn pod(
     alloc: Global,
@@ -42,18 +70,7 @@ fn pod(
     package_path: &[u8],
     functions: &[Lines],
 ) -> Result<DecodedPod, NoMemory> {
-    let mut package = MetaPackage {
-        name: Text::of(alloc, b"main")?,
-        path: Text::of(alloc, package_path)?,
-        module: Text::of(alloc, b"m")?,
-        functions: Sequence::new(alloc),
-    };
-    let mut by_function = Sequence::new(alloc);
-    for lines in functions {
-        let (function, counts) = function(alloc, lines)?;
-        package.functions.push(function)?;
-        by_function.push(counts)?;
-    }
+    let (package, by_function) = package(alloc, package_path, functions)?;
     let mut packages = Sequence::new(alloc);
     packages.push(package)?;
     let mut counts = Sequence::new(alloc);
