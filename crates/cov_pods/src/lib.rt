@@ -20,5 +20,3 @@ pub use pod::{DirNames, Pod, copy_texts};
 
 #[cfg(test)]
 mod decode_tests;
-#[cfg(test)]
-mod tests;
