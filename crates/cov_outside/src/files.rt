@@ -43,4 +43,10 @@ pub trait Files {
         ensures no_memory { IsErrOf result FilesFault.NoMemory → tree self.new ≡ tree self.old }
         ensures cause { Counts (put_faults self.old) (put_faults self.new) result }
         ensures reads { read_faults self.new ≡ read_faults self.old };
+
+    /// Makes a directory, and those above it, where they are missing. The files stay.
+    fn make_dir(&mut self, dir: &str) -> Result<(), FilesFault>
+        ensures same { tree self.new ≡ tree self.old }
+        ensures cause { Counts (put_faults self.old) (put_faults self.new) result }
+        ensures reads { read_faults self.new ≡ read_faults self.old };
 }

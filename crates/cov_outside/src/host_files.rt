@@ -69,6 +69,17 @@ impl<R: rt::Files> Files for HostFiles<'_, R> {
             }
         }
     }
+
+    fn make_dir(&mut self, dir: &str) -> Result<(), FilesFault> {
+        match fs::create_dir_all(self.rt, dir).map_err(fault_of) {
+            Ok(()) => Ok(()),
+            Err(FilesFault::NoMemory) => Err(FilesFault::NoMemory),
+            Err(FilesFault::Failed) => {
+                self.puts = self.puts.saturating_add(1);
+                Err(FilesFault::Failed)
+            }
+        }
+    }
 }
 
 fn fault_of(e: io::Error) -> FilesFault {

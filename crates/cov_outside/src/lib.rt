@@ -29,7 +29,7 @@ pub use limit::Which;
 pub use memory_files::MemoryFiles;
 pub use memory_sink::MemorySink;
 pub use mode::Mode;
-pub use sequence::Sequence;
+pub use sequence::{Sequence, copy_texts};
 pub use sink::Sink;
 pub use stamp::Stamp;
 pub use text::Text;

@@ -126,4 +126,22 @@ impl Files for MemoryFiles {
         self.contents.insert(path, bytes)?;
         Ok(())
     }
+
+    /// Every directory is there, so this only has its number among the calls.
+    fn make_dir(&mut self, _dir: &str) -> Result<(), FilesFault>
+        ensures same { Some self.new.tree ≡ Some self.old.tree }
+        ensures cause { Counts (count_of self.old.failing self.old.puts) (count_of self.new.failing self.new.puts) result }
+        ensures reads { count_of self.new.failing self.new.reads ≡ count_of self.old.failing self.old.reads }
+
+        ensures fails { IsErrOf result FilesFault.Failed ↔ Contains self.old.failing self.old.calls }
+        ensures ok { ¬ IsErrOf result FilesFault.NoMemory }
+        ensures next { IsNextCall self.old self.new }
+    {
+        if next(&self.failing, &mut self.calls) {
+            let faults = self.puts.saturating_add(1);
+            self.puts = faults;
+            return Err(FilesFault::Failed);
+        }
+        Ok(())
+    }
 }

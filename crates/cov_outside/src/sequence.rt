@@ -1,7 +1,8 @@
 //! A `Vec` that contracts see as the list of its items.
-ghost use Rattle.std.specs.Prelude.{◌≡◌, ◌<◌, [], ◌∷◌, ◌++◌, length, slice_index_or, slice_set, IsTrue, ◌↔◌, OnOk, OnErr};
+ghost use Rattle.std.specs.Prelude.{◌≡◌, ◌<◌, [], ◌∷◌, ◌++◌, length, slice_index_or, slice_set, IsTrue, ◌↔◌, OnOk, OnErr, IfOk};
 
 use crate::fault::NoMemory;
+use crate::text::Text;
 use std::alloc::Global;
 use std::marker::Model;
 use std::mem::replace;
@@ -81,4 +82,15 @@ impl<T: Drop> Sequence<T> {
     {
         replace(&mut self.items[i], item)
     }
+}
+
+/// Equal texts.
+pub fn copy_texts(alloc: Global, texts: &[Text]) -> Result<Sequence<Text>, NoMemory>
+    ensures { IfOk result (λ copies. copies ≡ texts.now) }
+{
+    let mut copies = Sequence::new(alloc);
+    for text in texts {
+        copies.push(text.clone()?)?;
+    }
+    Ok(copies)
 }

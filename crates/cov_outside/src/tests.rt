@@ -33,7 +33,9 @@ fn host_files(rt: HostRuntime) -> Result<(), Fail> {
     let other = format!(in alloc; "{folder}/a")?;
     assert!(rt; files.put(other.as_str(), b"").is_ok());
     let inner = format!(in alloc; "{folder}/c")?;
-    fs::create_dir_all(&rt, inner.as_str())?;
+    assert!(rt; files.make_dir(inner.as_str()).is_ok());
+    assert!(rt; files.make_dir(inner.as_str()).is_ok());
+    assert!(rt; files.make_dir(file.as_str()).is_err());
     let names = files.list(alloc, folder.as_str()).expect(&rt, "names");
     assert!(rt; names_text(alloc, &names)?.as_slice() == b"a b ".as_slice());
     let bytes = read_whole(alloc, &mut files, file.as_str(), 6).expect(&rt, "bytes");
@@ -75,6 +77,7 @@ fn memory_fails_by_number(rt: HostRuntime) -> Result<(), Fail> {
     assert!(rt; files.put("d/b", b"newer").is_err());
     assert!(rt; files.get("d/b") == Some(b"new".as_slice()));
     assert!(rt; files.get("d/c").is_none());
+    assert!(rt; files.make_dir("d").is_ok());
     let mut sink = MemorySink::new(alloc, &[1])?;
     assert!(rt; write_whole(&mut sink, b"one").is_ok());
     assert!(rt; write_whole(&mut sink, b"two").is_err());

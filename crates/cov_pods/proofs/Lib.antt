@@ -1,3 +1,4 @@
+pub mod AsciiNames
 pub mod Bind
 pub mod Causes
 pub mod CounterFiles

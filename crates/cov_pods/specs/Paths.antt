@@ -8,9 +8,9 @@ use Rattle.cov_pods.specs.declared.pod.Pod.{Pod}
 abbrev pub path_in : List ℕ → List ℕ → List ℕ
 path_in dir name = dir ++ 47 ∷ name
 
--- the directory and its names are UTF-8
-abbrev pub AreTextNames : DirNames → Type 0
-AreTextNames d = IsUtf8 d.dir × All IsUtf8 d.names
+-- the directory is UTF-8
+abbrev pub HasTextDir : DirNames → Type 0
+HasTextDir d = IsUtf8 d.dir
 
 -- the paths of the pod are UTF-8
 abbrev pub HasTextPaths : Pod → Type 0

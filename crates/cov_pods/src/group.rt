@@ -3,7 +3,7 @@ ghost use Rattle.std.specs.Prelude.{◌≡◌, [], ◌∷◌, ◌++◌, List, Al
 ghost use Rattle.cov_bytes.specs.Intern.{index_of, with_text};
 ghost use Rattle.cov_pods.specs.Names as names;
 ghost use Rattle.cov_pods.specs.Paths as paths;
-ghost use Rattle.cov_pods.specs.Paths.{AreTextNames, HasTextPaths};
+ghost use Rattle.cov_pods.specs.Paths.{HasTextDir, HasTextPaths};
 ghost use Rattle.cov_pods.specs.Pods.{Found, file_in, found_in, found, pod_of, pods_of, HoldsMetas, HoldsCounters};
 
 use crate::names::{counter_hash, meta_hash};
@@ -135,7 +135,7 @@ fn metas_of(
 /// A pod has the first meta file found with its hash and all counter files with it. Other names are left out.
 pub fn collect(alloc: Global, dirs: &[DirNames]) -> Result<Vec<Pod>, NoMemory>
     ensures pods { IfOk result (λ pods. pods.items ≡ pods_of dirs.now) }
-    ensures utf8 { All AreTextNames dirs.now → IfOk result (λ pods. All HasTextPaths pods.items) }
+    ensures utf8 { All HasTextDir dirs.now → IfOk result (λ pods. All HasTextPaths pods.items) }
 {
     let mut hashes = StringTable::new(alloc);
     let mut pods = metas_of(alloc, &mut hashes, dirs)?;

@@ -16,7 +16,7 @@ pub use decoded::DecodedPod;
 pub use fault::PodFault;
 pub use group::collect;
 pub use names::{counter_hash, meta_hash};
-pub use pod::{DirNames, Pod, copy_texts};
+pub use pod::{DirNames, Pod};
 
 #[cfg(test)]
 mod decode_tests;

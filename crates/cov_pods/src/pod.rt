@@ -1,7 +1,7 @@
 //! Which files belong together.
 ghost use Rattle.std.specs.Prelude.{◌≡◌, IfOk};
 
-use cov_outside::{NoMemory, Sequence, Text};
+use cov_outside::{NoMemory, Sequence, Text, copy_texts};
 use std::alloc::Global;
 
 /// The names of the files directly in a directory.
@@ -20,17 +20,6 @@ pub struct Pod {
     pub meta: Text,
     /// The paths of the counter files, in order.
     pub counters: Sequence<Text>,
-}
-
-/// Equal texts.
-pub fn copy_texts(alloc: Global, texts: &[Text]) -> Result<Sequence<Text>, NoMemory>
-    ensures { IfOk result (λ copies. copies ≡ texts.now) }
-{
-    let mut copies = Sequence::new(alloc);
-    for text in texts {
-        copies.push(text.clone()?)?;
-    }
-    Ok(copies)
 }
 
 impl Pod {

@@ -2,3 +2,8 @@ pub mod Prefixes
 pub mod Lines
 pub mod Sharing
 pub mod Rising
+pub mod FirstUnits
+pub mod FunctionSumming
+pub mod KeptUnits
+pub mod FunctionText
+pub mod NumberedLines

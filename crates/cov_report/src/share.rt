@@ -18,8 +18,14 @@ pub struct Share {
     pub statements: u128,
 }
 
+/// No statements.
+pub const NOTHING: Share = Share {
+    covered: 0,
+    statements: 0,
+};
+
 /// The statements of a unit that ran, else 0.
-fn ran(unit: &Unit<'_>) -> u32
+pub fn ran(unit: &Unit<'_>) -> u32
     ensures { result ≡ (if unit.now.count == 0 then 0 else unit.now.statements) }
 {
     if unit.count == 0 { 0 } else { unit.statements }
@@ -54,10 +60,7 @@ pub fn share_of(units: &Units<'_>, at: &mut usize, path: &[u8]) -> Share
     ensures small { (result.statements < 2 ^ 100) × (result.covered < 2 ^ 100) }
     ensures later { (q : List ℕ) → text_cmp path.now q ≡ Less → units_of q (drop at.new units.now) ≡ units_of q (drop at.old units.now) }
 {
-    let mut share = Share {
-        covered: 0,
-        statements: 0,
-    };
+    let mut share = NOTHING;
     for i in *at..units.len() {
         let Some(unit) = units.get(i) else {
             return share;

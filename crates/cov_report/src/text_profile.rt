@@ -11,7 +11,7 @@ use cov_table::{Table, Unit, Units};
 use std::alloc::Global;
 
 /// Appends a line and a column with a dot between them.
-fn push_place(text: &mut Vec<u8>, line: u32, column: u32) -> Result<(), NoMemory>
+pub fn push_place(text: &mut Vec<u8>, line: u32, column: u32) -> Result<(), NoMemory>
     ensures { OnOk result (text.new.items ≡ text.old.items ++ place_text line column) }
 {
     push_number(text, line)?;

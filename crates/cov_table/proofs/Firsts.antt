@@ -26,7 +26,7 @@ is_none None h = refl
 is_none (Some x) h = cc
 
 module _ {K X : Type 0} (R : K → K → Ordering) where
-  find_append : (q : K) (es fs : List (K × X)) → finmap.find R q (es ++ fs) ≡ option_or (finmap.find R q es) (finmap.find R q fs)
+  pub find_append : (q : K) (es fs : List (K × X)) → finmap.find R q (es ++ fs) ≡ option_or (finmap.find R q es) (finmap.find R q fs)
   find_append q [] fs = refl
   find_append q (e ∷ es) fs =
       elim (eq_by_cmp R q e.0) as (λ b. cond b (Some e.1) (finmap.find R q (es ++ fs)) ≡ option_or (cond b (Some e.1) (finmap.find R q es)) (finmap.find R q fs)) [ true ↦ refl | false ↦ find_append q es fs ]

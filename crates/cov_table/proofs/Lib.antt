@@ -10,3 +10,13 @@ pub mod PackageSettling
 pub mod Tables
 pub mod Renumbering
 pub mod Merging
+pub mod Keeping
+pub mod Kept
+pub mod FirstUnits
+pub mod Grouping
+pub mod PodRows
+pub mod Recounts
+pub mod Decodes
+pub mod PodUnits
+pub mod Covered
+pub mod Sound

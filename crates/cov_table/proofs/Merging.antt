@@ -24,7 +24,7 @@ module _ {K : Type 0} {R : K → K → Ordering} (o : IsTotalOrder R) where
       ap (λ r. is_eq r || has R q es) (o.congr q k e.0 t ∙ less _ b.0) ∙ none_above q k es t b.1
 
   -- each key stands once: the sum of its counts is its count
-  total_found : (q : K) (es : List (K × ℕ)) → T (finmap.is_sorted R es) → total R q es ≡ unwrap_or (finmap.find R q es) 0
+  pub total_found : (q : K) (es : List (K × ℕ)) → T (finmap.is_sorted R es) → total R q es ≡ unwrap_or (finmap.find R q es) 0
   total_found q [] h = refl
   total_found q (e ∷ es) h =
       let parts : T (below_all R e.0 es) × T (finmap.is_sorted R es) = both _ _ h in
@@ -34,7 +34,7 @@ module _ {K : Type 0} {R : K → K → Ordering} (o : IsTotalOrder R) where
         | false ↦ λ t. let rest : total R q es ≡ unwrap_or (finmap.find R q es) 0 = total_found q es parts.1 in omega arith
       ] refl
 
-  has_found : (q : K) (es : List (K × ℕ)) → has R q es ≡ is_some (finmap.find R q es)
+  pub has_found : (q : K) (es : List (K × ℕ)) → has R q es ≡ is_some (finmap.find R q es)
   has_found q [] = refl
   has_found q (e ∷ es) = elim (eq_by_cmp R q e.0) as (λ b. (b || has R q es) ≡ is_some (cond b (Some e.1) (finmap.find R q es))) [ true ↦ refl | false ↦ has_found q es ]
 
@@ -42,7 +42,7 @@ module _ {K : Type 0} {R : K → K → Ordering} (o : IsTotalOrder R) where
     abbrev counted : finmap.FinMap R ℕ
     counted = with_counts (sum_up_to most) finmap.empty es
 
-    found : (q : K) → finmap.find R q (finmap.entries counted) ≡ cond (has R q es) (Some (min (0 + total R q es) most)) None
+    pub found : (q : K) → finmap.find R q (finmap.entries counted) ≡ cond (has R q es) (Some (min (0 + total R q es) most)) None
     found q =
         sym (finmap.get-entries counted q)
         ∙ get_counts o most finmap.empty es q

@@ -14,7 +14,8 @@ use Rattle.cov_table.specs.Counts.{with_counts}
 use Rattle.cov_table.specs.Firsts.{with_firsts}
 use Rattle.cov_table.specs.Coverage.{merged, Coverage, Counts, extended, counts_of, package_of}
 use Rattle.cov_table.specs.Refusal.{Agree}
-use Rattle.cov_table.specs.Rows.{row_entry, package_entry, Extends, AllWithin, AllPackagesWithin, counts_up_to, greatest_of, packages_in, Adds, AddsPackages, Means, IsTable, coverage_of}
+use Rattle.cov_table.specs.Rows.{row_entry, package_entry, Extends, AllWithin, AllPackagesWithin, counts_up_to, greatest_of, packages_in, Adds, AddsPackages, Means, IsTable, coverage_of, IsCovered}
+use Rattle.cov_table.proofs.Covered.{covered_append}
 use Rattle.cov_table.proofs.Keys.{key_total, key_same, text_same}
 use Rattle.cov_table.proofs.Counting.{sum_up_to, counts_added}
 use Rattle.cov_table.proofs.Firsts.{firsts_added}
@@ -39,7 +40,7 @@ gathered s t u rows0 rows packages0 packages from from' counts counts' e f more 
 
 module _ (mode : Option Mode) (texts more : List (List ℕ)) (rows : List Row) (packages : List PackageRow) where
   pub kept_table : Extends texts more → IsTable mode texts rows packages → IsTable mode more rows packages
-  kept_table e t = record { rows_within = within_kept texts more rows e t.rows_within; packages_within = packages_within_kept texts more packages e t.packages_within; nothing = t.nothing }
+  kept_table e t = record { rows_within = within_kept texts more rows e t.rows_within; packages_within = packages_within_kept texts more packages e t.packages_within; nothing = t.nothing; covered = subst (λ (es : List (Key × ℕ)). IsCovered es (map (package_entry more) packages)) (sym (entries_kept texts more rows e t.rows_within)) (subst (IsCovered (map (row_entry texts) rows)) (sym (packages_kept texts more packages e t.packages_within)) t.covered) }
 
   pub kept_coverage : Extends texts more → IsTable mode texts rows packages → coverage_of mode more rows packages ≡ coverage_of mode texts rows packages
   kept_coverage e t =
@@ -57,11 +58,15 @@ same_most None second texts rows a n =
 same_most (Some first) second texts rows a n = ap (λ (m : Mode). counts_up_to (greatest m) texts rows) (sym (a first second refl refl))
 
 module _ (mode : Option Mode) (second : Mode) (texts more : List (List ℕ)) (rows rows' added : List Row) (packages packages' others : List PackageRow) (counts : List (Key × ℕ)) (paths : List (List ℕ × (List ℕ × List ℕ))) where
-  pub more_table : Extends texts more → IsTable mode texts rows packages → Means more added others counts paths → rows' ≡ rows ++ added → packages' ≡ packages ++ others → IsTable (Some second) more rows' packages'
-  more_table e t m p q = record {
+  pub more_table : Extends texts more → IsTable mode texts rows packages → Means more added others counts paths → IsCovered counts paths → rows' ≡ rows ++ added → packages' ≡ packages ++ others → IsTable (Some second) more rows' packages'
+  more_table e t m covers p q = record {
     rows_within = subst (AllWithin (length more)) (sym p) (within_append (length more) rows added (within_kept texts more rows e t.rows_within) m.rows_within);
     packages_within = subst (AllPackagesWithin (length more)) (sym q) (packages_within_append (length more) packages others (packages_within_kept texts more packages e t.packages_within) m.packages_within);
     nothing = λ none. cc;
+    covered =
+        let units : map (row_entry more) rows' ≡ map (row_entry texts) rows ++ counts = ap (map (row_entry more)) p ∙ map-append (row_entry more) rows added ∙ (λ i. entries_kept texts more rows e t.rows_within i ++ m.counts_are i) in
+        let there : map (package_entry more) packages' ≡ map (package_entry texts) packages ++ paths = ap (map (package_entry more)) q ∙ map-append (package_entry more) packages others ∙ (λ i. packages_kept texts more packages e t.packages_within i ++ m.packages_are i) in
+        subst (λ (es : List (Key × ℕ)). IsCovered es (map (package_entry more) packages')) (sym units) (subst (IsCovered (map (row_entry texts) rows ++ counts)) (sym there) (covered_append _ _ _ _ t.covered covers));
   }
 
   pub more_coverage : Extends texts more → IsTable mode texts rows packages → Means more added others counts paths → Agree mode (Some second) → rows' ≡ rows ++ added → packages' ≡ packages ++ others

@@ -7,3 +7,10 @@ pub mod Rows
 pub mod Unit
 pub mod Laws
 pub mod Package
+pub mod Operations
+pub mod Keeping
+pub mod Functions
+pub mod PodOf
+pub mod Grouping
+pub mod PodRows
+pub mod PodLaws

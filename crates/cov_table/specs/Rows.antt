@@ -1,5 +1,5 @@
 -- What rows of numbers mean over a pool of texts.
-use Rattle.std.specs.Prelude.{◌≡◌, ℕ, ◌+◌, ◌<◌, min, List, [], ◌∷◌, ◌++◌, map, length, slice_index_or, Option, None, Some, T}
+use Rattle.std.specs.Prelude.{◌≡◌, ℕ, ◌+◌, ◌<◌, min, List, [], ◌∷◌, ◌++◌, map, length, slice_index_or, Option, None, Some, is_some, true, T}
 use Rattle.std.specs.List.{zip}
 use Rattle.std.specs.FinMap as finmap
 use Rattle.cov_outside.specs.declared.mode.Mode.{Mode}
@@ -10,7 +10,7 @@ use Rattle.cov_table.specs.declared.row.Row.{Row}
 use Rattle.cov_table.specs.declared.row.PackageRow.{PackageRow}
 use Rattle.cov_table.specs.Key.{Key, key_cmp, text_cmp}
 use Rattle.cov_table.specs.Coverage.{Coverage, Counts, Packages}
-use Rattle.cov_table.specs.Counts.{with_counts}
+use Rattle.cov_table.specs.Counts.{with_counts, has}
 
 abbrev pub text_at : List (List ℕ) → ℕ → List ℕ
 text_at texts i = slice_index_or texts i []
@@ -93,11 +93,16 @@ pub record Means (texts : List (List ℕ)) (rows : List Row) (packages : List Pa
   pub counts_are : map (row_entry texts) rows ≡ counts
   pub packages_are : map (package_entry texts) packages ≡ paths
 
--- the fields of a table: every number has a text, and without a mode there is nothing
+-- each unit's package is among the packages
+abbrev pub IsCovered : List (Key × ℕ) → List (List ℕ × (List ℕ × List ℕ)) → Type 0
+IsCovered units paths = (key : Key) → has key_cmp key units ≡ true → is_some (finmap.find text_cmp key.package_path paths) ≡ true
+
+-- the fields of a table: every number has a text, without a mode there is nothing, and each unit's package is there
 pub record IsTable (mode : Option Mode) (texts : List (List ℕ)) (rows : List Row) (packages : List PackageRow) : Type 0 where
   pub rows_within : AllWithin (length texts) rows
   pub packages_within : AllPackagesWithin (length texts) packages
   pub nothing : mode ≡ None → (rows ≡ []) × (packages ≡ [])
+  pub covered : IsCovered (map (row_entry texts) rows) (map (package_entry texts) packages)
 
 abbrev pub coverage_of : Option Mode → List (List ℕ) → List Row → List PackageRow → Coverage
 coverage_of mode texts rows packages = record { mode = mode; counts = counts_up_to (greatest_of mode) texts rows; packages = packages_in texts packages }

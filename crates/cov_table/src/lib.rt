@@ -2,10 +2,13 @@
 #![tactic(auto)]
 
 mod gather;
+mod group;
+mod keep;
 mod laws;
 mod order;
 mod package_order;
 mod packages;
+mod pod_out;
 mod refusal;
 mod renumber;
 mod row;
@@ -13,8 +16,9 @@ mod settle;
 mod table;
 mod units;
 
-pub use laws::counts_and_packages_by_key;
+pub use laws::{counts_and_packages_by_key, operations_by_key, pod_is_table};
 pub use packages::{Package, Packages};
+pub use pod_out::PodOut;
 pub use refusal::TableRefusal;
 pub use table::Table;
 pub use units::{Unit, Units};

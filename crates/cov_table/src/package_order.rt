@@ -48,6 +48,19 @@ pub fn first_packages(
     Ok(firsts)
 }
 
+/// The first package of each path, in the order of the paths.
+pub fn packages_in_order(
+    alloc: Global,
+    texts: &StringTable,
+    rows: &[PackageRow],
+) -> Result<Vec<PackageRow>, NoMemory>
+    ensures { IfOk result (λ v. map (package_entry texts.now) v.items ≡ finmap.entries (packages_in texts.now rows.now)) }
+{
+    let mut rows = Vec::from_slice(alloc, rows)?;
+    sort_packages(texts, &mut rows)?;
+    first_packages(alloc, texts, &rows)
+}
+
 /// Keeps the first of each where those added since the last time outnumber the others.
 pub fn settle_packages(
     alloc: Global,

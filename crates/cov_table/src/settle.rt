@@ -1,10 +1,10 @@
 //! Sorting rows by their units and combining those of one unit.
-ghost use Rattle.std.specs.Prelude.{◌≡◌, ◌≤◌, ◌/◌, ℕ, map, OnOk, IfOk, vec_len};
+ghost use Rattle.std.specs.Prelude.{◌≡◌, ◌≤◌, ◌/◌, ℕ, [], map, OnOk, IfOk, vec_len};
 ghost use Rattle.std.specs.List.Sorted.{IsSortedByKey};
 ghost use Rattle.std.specs.FinMap as finmap;
 ghost use Rattle.cov_outside.specs.Mode.{combined, greatest};
 ghost use Rattle.cov_table.specs.Key.{key_cmp};
-ghost use Rattle.cov_table.specs.Rows.{AllWithin, counts_up_to, row_entry, row_key};
+ghost use Rattle.cov_table.specs.Rows.{AllWithin, counts_up_to, greatest_of, row_entry, row_key};
 
 use crate::order::compare;
 use crate::row::Row;
@@ -60,6 +60,25 @@ pub fn combine(
     }
     settled.push(held)?;
     Ok(settled)
+}
+
+/// The rows of a table in order, with one for each unit.
+pub fn rows_in_order(
+    alloc: Global,
+    mode: Option<Mode>,
+    texts: &StringTable,
+    rows: &[Row],
+) -> Result<Vec<Row>, NoMemory>
+    requires { mode ≡ None → rows.now ≡ [] }
+    ensures within { IfOk result (λ v. (n : ℕ) → AllWithin n rows.now → AllWithin n v.items) }
+    ensures entries { IfOk result (λ v. map (row_entry texts.now) v.items ≡ finmap.entries (counts_up_to (greatest_of mode) texts.now rows.now)) }
+{
+    let Some(mode) = mode else {
+        return Ok(Vec::new(alloc));
+    };
+    let mut rows = Vec::from_slice(alloc, rows)?;
+    sort(texts, &mut rows)?;
+    combine(alloc, mode, texts, &rows)
 }
 
 /// Combines rows where those added since the last time outnumber the others.

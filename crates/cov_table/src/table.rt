@@ -1,16 +1,22 @@
 //! Tables.
-ghost use Rattle.std.specs.Prelude.{◌≡◌, ◌++◌, Some, IfOk, OnErr, OnOk};
+ghost use Rattle.std.specs.Prelude.{◌≡◌, ◌++◌, Some, IfOk, IfSome, OnErr, OnOk};
 ghost use Rattle.std.specs.FinMap as finmap;
 ghost use Rattle.cov_table.specs.Coverage.{empty, with_pod, merged};
+ghost use Rattle.cov_table.specs.Operations.{kept_where, subtracted, intersected};
+ghost use Rattle.cov_table.specs.Keeping.{passes};
+ghost use Rattle.cov_table.specs.PodOf.{pod_of};
+ghost use Rattle.cov_table.specs.PodLaws.{decoded};
 ghost use Rattle.cov_table.specs.Refusal.{ClashesExactly};
 
 use crate::gather::{Gathered, gather_pod, mode_of};
-use crate::package_order::{first_packages, settle_packages, sort_packages};
+use crate::keep::{Keeps, kept_rows};
+use crate::package_order::{packages_in_order, settle_packages};
 use crate::packages::Packages;
+use crate::pod_out::{PodOut, pod_from};
 use crate::refusal::{TableRefusal, agree};
 use crate::renumber::gather_rows;
 use crate::row::{PackageRow, Row};
-use crate::settle::{combine, settle, sort};
+use crate::settle::{rows_in_order, settle};
 use crate::units::Units;
 use cov_bytes::StringTable;
 use cov_outside::{Mode, NoMemory};
@@ -129,6 +135,39 @@ impl Table {
         Ok(())
     }
 
+    /// Keeps each count where the other table's is 0 or has no such unit; the others become 0. The units and packages
+    /// of this table stay. After a refusal the table is as before.
+    pub fn subtract(&mut self, other: &Table) -> Result<(), TableRefusal>
+        ensures ok { OnOk result (self.new ≡ subtracted self.old other.now) }
+        ensures clash { ClashesExactly result self.old.mode other.now.mode }
+        ensures err { OnErr result (self.new ≡ self.old) }
+    {
+        self.keep(other, Keeps::WhereZero)
+    }
+
+    /// Keeps each count where the other table's isn't 0; the others become 0. The units and packages of this table
+    /// stay. After a refusal the table is as before.
+    pub fn intersect(&mut self, other: &Table) -> Result<(), TableRefusal>
+        ensures ok { OnOk result (self.new ≡ intersected self.old other.now) }
+        ensures clash { ClashesExactly result self.old.mode other.now.mode }
+        ensures err { OnErr result (self.new ≡ self.old) }
+    {
+        self.keep(other, Keeps::WhereCounted)
+    }
+
+    /// Keeps the counts where the other table's pass a test.
+    fn keep(&mut self, other: &Table, keeps: Keeps) -> Result<(), TableRefusal>
+        ensures ok { OnOk result (self.new ≡ kept_where (passes keeps) self.old other.now) }
+        ensures clash { ClashesExactly result self.old.mode other.now.mode }
+        ensures err { OnErr result (self.new ≡ self.old) }
+    {
+        agree(self.mode, other.mode)?;
+        let others = rows_in_order(self.alloc, other.mode, &other.texts, &other.rows)?;
+        let others = gather_rows(self.alloc, &mut self.texts, &other.texts, &others, &[])?;
+        self.rows = kept_rows(self.alloc, &self.texts, &self.rows, &others.rows, keeps)?;
+        Ok(())
+    }
+
     /// Combines the rows where those added since the last time outnumber the others.
     fn settle(&mut self) -> Result<(), NoMemory>
         ensures { self.new ≡ self.old }
@@ -155,21 +194,30 @@ impl Table {
     pub fn units(&self, alloc: Global) -> Result<Units<'_>, NoMemory>
         ensures { IfOk result (λ units. units ≡ finmap.entries self.now.counts) }
     {
-        let Some(mode) = self.mode else {
-            return Ok(Units::new(&self.texts, Vec::new(alloc)));
-        };
-        let mut rows = Vec::from_slice(alloc, &self.rows)?;
-        sort(&self.texts, &mut rows)?;
-        Ok(Units::new(&self.texts, combine(alloc, mode, &self.texts, &rows)?))
+        let rows = rows_in_order(alloc, self.mode, &self.texts, &self.rows)?;
+        Ok(Units::new(&self.texts, rows))
     }
 
     /// The packages in the order of their paths.
     pub fn packages(&self, alloc: Global) -> Result<Packages<'_>, NoMemory>
         ensures { IfOk result (λ packages. packages ≡ finmap.entries self.now.packages) }
     {
-        let mut rows = Vec::from_slice(alloc, &self.packages)?;
-        sort_packages(&self.texts, &mut rows)?;
-        let firsts = first_packages(alloc, &self.texts, &rows)?;
-        Ok(Packages::new(&self.texts, firsts))
+        let packages = packages_in_order(alloc, &self.texts, &self.packages)?;
+        Ok(Packages::new(&self.texts, packages))
+    }
+
+    /// The pod that the table makes: its packages by path, their functions in the order of their first units, the units
+    /// of each in order, and an entry for each function with a count that isn't 0. None exactly for an empty table.
+    /// The empty table with this pod is the table again.
+    pub fn to_pod(&self, alloc: Global) -> Result<Option<PodOut>, NoMemory>
+        ensures pod { IfOk result (λ pod. pod ≡ pod_of self.now) }
+        ensures decodes { IfOk result (λ pod. IfSome pod (λ made. decoded made ≡ self.now)) }
+    {
+        let Some(mode) = self.mode else {
+            return Ok(None);
+        };
+        let rows = rows_in_order(alloc, self.mode, &self.texts, &self.rows)?;
+        let packages = packages_in_order(alloc, &self.texts, &self.packages)?;
+        Ok(Some(pod_from(alloc, mode, &self.texts, &rows, &packages)?))
     }
 }

@@ -2,6 +2,7 @@ ghost use Rattle.std.specs.Prelude.{◌≡◌, IfOk, length, map};
 ghost use Rattle.cov_pods.specs.CountedPod.{IsWhole};
 
 use super::*;
+use cov_counter::Entry;
 use cov_meta::{Meta, MetaFile, MetaFunction, MetaPackage, MetaUnit, Place2};
 use cov_outside::{Mode, NoMemory, Sequence, Text};
 use cov_pods::{DecodedPod, Pod};
@@ -203,5 +204,169 @@ fn combines_pods(rt: HostRuntime) -> Result<(), Fail> {
             "merged units of case {i}"
         );
     }
+    Ok(())
+}
+
+/// Tables of pods, and what their operations leave.
+struct Pair {
+    first: &'static [(Mode, &'static [u8], &'static [Lines])],
+    second: &'static [(Mode, &'static [u8], &'static [Lines])],
+    refused: bool,
+    subtracted: &'static [Shown],
+    intersected: &'static [Shown],
+}
+
+const MAIN_SHOWN: &[Shown] = &[
+    (b"m", b"main", 5, 1),
+    (b"m", b"idle", 7, 0),
+    (b"m", b"main", 9, 1),
+];
+
+const NONE_SHOWN: &[Shown] = &[
+    (b"m", b"main", 5, 0),
+    (b"m", b"idle", 7, 0),
+    (b"m", b"main", 9, 0),
+];
+
+const PAIRS: [Pair; 5] = [
+    Pair {
+        first: &[(Mode::Set, b"m", MAIN)],
+        second: &[(Mode::Set, b"m", MAIN)],
+        refused: false,
+        subtracted: NONE_SHOWN,
+        intersected: MAIN_SHOWN,
+    },
+    Pair {
+        first: &[(Mode::Count, b"m", MAIN), (Mode::Count, b"m", MAIN)],
+        second: &[(Mode::Count, b"m", MANY), (Mode::Count, b"a", MAIN)],
+        refused: false,
+        subtracted: &[
+            (b"m", b"main", 5, 0),
+            (b"m", b"idle", 7, 0),
+            (b"m", b"main", 9, 2),
+        ],
+        intersected: &[
+            (b"m", b"main", 5, 2),
+            (b"m", b"idle", 7, 0),
+            (b"m", b"main", 9, 0),
+        ],
+    },
+    Pair {
+        first: &[(Mode::Set, b"m", MAIN)],
+        second: &[],
+        refused: false,
+        subtracted: MAIN_SHOWN,
+        intersected: NONE_SHOWN,
+    },
+    Pair {
+        first: &[],
+        second: &[(Mode::Set, b"m", MAIN)],
+        refused: false,
+        subtracted: &[],
+        intersected: &[],
+    },
+    Pair {
+        first: &[(Mode::Set, b"m", MAIN)],
+        second: &[(Mode::Atomic, b"m", MAIN)],
+        refused: true,
+        subtracted: MAIN_SHOWN,
+        intersected: MAIN_SHOWN,
+    },
+];
+
+/// The table of some pods.
+fn sum_of(
+    alloc: Global,
+    pods: &[(Mode, &'static [u8], &'static [Lines])],
+) -> Result<Table, NoMemory> {
+    let mut table = Table::new(alloc);
+    for (mode, package_path, functions) in pods {
+        let pod = pod(alloc, *mode, package_path, functions)?;
+        let _ = table.add_pod(&pod);
+    }
+    Ok(table)
+}
+
+#[test]
+fn keeps_counts(rt: HostRuntime) -> Result<(), Fail> {
+    let alloc = rt.alloc();
+    for (i, pair) in PAIRS.iter().enumerate() {
+        let second = sum_of(alloc, pair.second)?;
+        let mut table = sum_of(alloc, pair.first)?;
+        assert_eq!(rt;
+            table.subtract(&second).is_err(),
+            pair.refused,
+            "subtracting pair {i}"
+        );
+        assert!(rt;
+            shows(alloc, &table, pair.subtracted)?,
+            "subtracted units of pair {i}"
+        );
+        let mut table = sum_of(alloc, pair.first)?;
+        assert_eq!(rt;
+            table.intersect(&second).is_err(),
+            pair.refused,
+            "intersecting pair {i}"
+        );
+        assert!(rt;
+            shows(alloc, &table, pair.intersected)?,
+            "intersected units of pair {i}"
+        );
+    }
+    Ok(())
+}
+
+fn has_lines(units: &[MetaUnit], lines: &[u32]) -> bool {
+    units.len() == lines.len()
+        && units
+            .iter()
+            .zip(lines)
+            .all(|(unit, line)| unit.start.line == *line)
+}
+
+fn has_functions(functions: &[MetaFunction], want: &[(&'static [u8], &'static [u32])]) -> bool {
+    functions.len() == want.len()
+        && functions.iter().zip(want).all(|(f, (name, lines))| f.name.bytes() == *name
+            && has_lines(f.units.as_slice(), lines))
+}
+
+/// The functions of a package with the start lines of their units.
+type Functions = &'static [(&'static [u8], &'static [u32])];
+
+fn has_packages(packages: &[MetaPackage], want: &[(&'static [u8], Functions)]) -> bool {
+    packages.len() == want.len()
+        && packages.iter().zip(want).all(|(p, (path, functions))| p.path.bytes() == *path
+            && has_functions(p.functions.as_slice(), functions))
+}
+
+fn has_entries(entries: &[Entry], want: &[(u32, u32, &'static [u32])]) -> bool {
+    entries.len() == want.len()
+        && entries.iter().zip(want).all(|(entry, (package, function, counts))| {
+            entry.package == *package
+                && entry.function == *function
+                && entry.counts.as_slice() == *counts
+        })
+}
+
+#[test]
+fn makes_a_pod(rt: HostRuntime) -> Result<(), Fail> {
+    let alloc = rt.alloc();
+    assert!(rt; Table::new(alloc).to_pod(alloc)?.is_none());
+    let table = sum_of(
+        alloc,
+        &[
+            (Mode::Count, b"m", MAIN),
+            (Mode::Count, b"m", MANY),
+            (Mode::Count, b"a", &[]),
+        ],
+    )?;
+    let pod = table.to_pod(alloc)?.expect(&rt, "a pod");
+    let packages: &[(&'static [u8], Functions)] = &[
+        (b"a", &[]),
+        (b"m", &[(b"main", &[5, 9]), (b"idle", &[7])]),
+    ];
+    assert!(rt; pod.meta.mode == Mode::Count);
+    assert!(rt; has_packages(pod.meta.packages.as_slice(), packages));
+    assert!(rt; has_entries(pod.entries.as_slice(), &[(1, 0, &[4294967295, 1])]));
     Ok(())
 }

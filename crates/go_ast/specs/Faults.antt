@@ -3,8 +3,8 @@ use Rattle.std.specs.Prelude.{◌≡◌, ◌≢◌, ◌⊎◌, ℕ, ◌+◌, ◌
 use Rattle.std.specs.List.{AllByRecursion}
 use Rattle.std.specs.Str.{encode_utf8_all, StartsWithNoChar}
 use Rattle.std.specs.Char.{IsScalar}
-use Rattle.go_ast.specs.declared.token.Form.{Form}
-use Rattle.go_ast.specs.declared.token.Form.TheVariants as form
+use Rattle.go_ast.specs.declared.token.PieceForm.{PieceForm}
+use Rattle.go_ast.specs.declared.token.PieceForm.TheVariants as form
 use Rattle.go_ast.specs.declared.kind.LexKind.{LexKind}
 use Rattle.go_ast.specs.declared.kind.LexKind.TheVariants as fault
 use Rattle.go_ast.specs.Characters.{is_banned, BeginsWith}
@@ -34,7 +34,7 @@ IsStop rest fault.BadText = (quote : ℕ) × (more : List ℕ) × ((quote == 34 
 IsStop rest _ = ⊥
 
 -- why bytes of a form aren't meant, and at which offset from their first
-abbrev pub IsFlaw : Form → List ℕ → ℕ → LexKind → Type 0
+abbrev pub IsFlaw : PieceForm → List ℕ → ℕ → LexKind → Type 0
 IsFlaw form.Opening bytes at kind = (at ≡ 0) × (kind ≡ fault.BadComment)
 IsFlaw form.Number bytes at kind = (at ≡ 0) × (kind ≡ fault.BadNumber) × (is_int bytes ≡ false)
 IsFlaw form.Rune bytes at kind = ((at ≡ 0) × (kind ≡ fault.BadRune) × IsNoneOrMany (inner bytes)) ⊎ ((at ≡ 1) × (kind ≡ fault.BadEscape) × IsBadEscape 39 (inner bytes))
@@ -45,7 +45,7 @@ IsFlaw _ bytes at kind = ⊥
 abbrev pub IsBreak : List ℕ → ℕ → LexKind → Type 0
 IsBreak rest at kind =
     (IsStuck rest × (at ≡ 0) × IsStop rest kind)
-    ⊎ ((form : Form) × (bytes after : List ℕ) × (rest ≡ bytes ++ after) × IsLongest form bytes after × IsFlaw form bytes at kind)
+    ⊎ ((form : PieceForm) × (bytes after : List ℕ) × (rest ≡ bytes ++ after) × IsLongest form bytes after × IsFlaw form bytes at kind)
 
 -- the text has this fault at this offset: a bad character, or a break behind pieces
 abbrev pub HasFault : List ℕ → ℕ → LexKind → Type 0

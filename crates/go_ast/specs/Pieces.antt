@@ -3,8 +3,8 @@ use Rattle.std.specs.Prelude.{◌≡◌, ◌≢◌, ◌⊎◌, ℕ, ◌≤◌, t
 use Rattle.std.specs.List.{AllByRecursion, list_any}
 use Rattle.std.specs.Str.{encode_utf8_all}
 use Rattle.std.specs.Char.{IsScalar}
-use Rattle.go_ast.specs.declared.token.Form.{Form}
-use Rattle.go_ast.specs.declared.token.Form.TheVariants as form
+use Rattle.go_ast.specs.declared.token.PieceForm.{PieceForm}
+use Rattle.go_ast.specs.declared.token.PieceForm.TheVariants as form
 use Rattle.go_ast.specs.Places.{is_newline}
 use Rattle.go_ast.specs.Characters.{is_letter, is_letter_or_digit, AreCharacters}
 use Rattle.go_ast.specs.Numbers.{is_run, is_number_end, is_decimal, is_int}
@@ -37,7 +37,7 @@ abbrev pub IsBetween : ℕ → List ℕ → Type 0
 IsBetween quote bytes = (is_inside quote false (inner bytes) ≡ true) × (bytes ≡ quote ∷ (inner bytes ++ quote ∷ []))
 
 -- the bytes have this form
-abbrev pub HasForm : Form → List ℕ → Type 0
+abbrev pub HasForm : PieceForm → List ℕ → Type 0
 HasForm form.Blank bytes = ((byte : ℕ) × (list_any (λ b. byte == b) (32 ∷ 9 ∷ 13 ∷ []) ≡ true) × (bytes ≡ byte ∷ [])) ⊎ IsLineComment bytes ⊎ (IsBlockComment bytes × (list_any is_newline bytes ≡ false))
 HasForm form.Line bytes = (bytes ≡ 10 ∷ []) ⊎ (IsBlockComment bytes × (list_any is_newline bytes ≡ true))
 HasForm form.Opening bytes = bytes ≡ codes "/*"
@@ -49,17 +49,17 @@ HasForm form.Raw bytes = (more : List ℕ) × (list_any (λ b. b == 96) more ≡
 HasForm (form.Operator place) bytes = slice_get operators place ≡ Some bytes
 
 -- bytes of a form, where no longer bytes of any form stand
-pub record IsLongest (form : Form) (bytes rest : List ℕ) : Type 0 where
+pub record IsLongest (form : PieceForm) (bytes rest : List ℕ) : Type 0 where
   pub has_form : HasForm form bytes
-  pub longest : (other : Form) (others after : List ℕ) → HasForm other others → bytes ++ rest ≡ others ++ after → length others ≤ length bytes
+  pub longest : (other : PieceForm) (others after : List ℕ) → HasForm other others → bytes ++ rest ≡ others ++ after → length others ≤ length bytes
 
 -- no bytes of any form stand there
 pub record IsStuck (rest : List ℕ) : Type 0 where
   pub some : rest ≢ []
-  pub none : (form : Form) (bytes after : List ℕ) → HasForm form bytes → rest ≢ bytes ++ after
+  pub none : (form : PieceForm) (bytes after : List ℕ) → HasForm form bytes → rest ≢ bytes ++ after
 
 -- what has a form is also meant: no comment that is left open, an integer, one character, escapes that are known
-abbrev pub IsMeant : Form → List ℕ → Type 0
+abbrev pub IsMeant : PieceForm → List ℕ → Type 0
 IsMeant form.Opening bytes = ⊥
 IsMeant form.Number bytes = is_int bytes ≡ true
 IsMeant form.Rune bytes = IsRuneBody (inner bytes)
@@ -67,7 +67,7 @@ IsMeant form.Quoted bytes = IsQuotedBody (inner bytes)
 IsMeant _ bytes = Unit {0}
 
 pub record Piece : Type 0 where
-  pub form : Form
+  pub form : PieceForm
   pub bytes : List ℕ
 
 -- the text is these pieces, each the longest possible, and then the rest

@@ -1,8 +1,8 @@
 -- The token list of a text (Go specification: Lexical elements, "Tokens" and "Semicolons").
 use Rattle.std.specs.Prelude.{◌≡◌, ℕ, ◌+◌, Bool, true, false, ◌==◌, List, [], ◌∷◌, ◌++◌, length, Option, Some, None, codes, if◌then◌else◌}
 use Rattle.std.specs.List.{list_any}
-use Rattle.go_ast.specs.declared.token.Form.{Form}
-use Rattle.go_ast.specs.declared.token.Form.TheVariants as form
+use Rattle.go_ast.specs.declared.token.PieceForm.{PieceForm}
+use Rattle.go_ast.specs.declared.token.PieceForm.TheVariants as form
 use Rattle.go_ast.specs.declared.token.TokenKind.{TokenKind}
 use Rattle.go_ast.specs.declared.token.TokenKind.TheVariants as kind
 use Rattle.go_ast.specs.declared.token.Token.{Token}
@@ -15,7 +15,7 @@ word_kind None = kind.Name
 word_kind (Some place) = kind.Keyword place
 
 -- the kind of the token that a piece is, if it is one
-abbrev pub kind_of : Form → List ℕ → Option TokenKind
+abbrev pub kind_of : PieceForm → List ℕ → Option TokenKind
 kind_of form.Word bytes = Some (word_kind (place_in keywords bytes))
 kind_of form.Number bytes = Some kind.Int
 kind_of form.Rune bytes = Some kind.Rune
@@ -53,7 +53,7 @@ token_of None start end = []
 token_of (Some kind) start end = token kind start end ∷ []
 
 -- the tokens of a piece: a token is itself, and the end of a line is the semicolon that it needs
-abbrev pub tokens_by : Form → List ℕ → ℕ → ℕ → Option ℕ → List Token
+abbrev pub tokens_by : PieceForm → List ℕ → ℕ → ℕ → Option ℕ → List Token
 tokens_by form.Line bytes start end needed = inserted needed
 tokens_by form bytes start end needed = token_of (kind_of form bytes) start end
 
@@ -62,7 +62,7 @@ needed_behind None end before = before
 needed_behind (Some kind) end before = if ends_line kind then Some end else None
 
 -- where the line needs a semicolon if it ends behind a piece that ends at an offset; before, that of the pieces before
-abbrev pub needed_after : Form → List ℕ → ℕ → Option ℕ → Option ℕ
+abbrev pub needed_after : PieceForm → List ℕ → ℕ → Option ℕ → Option ℕ
 needed_after form.Line bytes end before = None
 needed_after form bytes end before = needed_behind (kind_of form bytes) end before
 

@@ -29,4 +29,4 @@ pub use name::Name;
 pub use place::{Place, place_of};
 pub use span::Span;
 pub use text::{NoMemory, Text};
-pub use token::{Form, Token, TokenKind};
+pub use token::{PieceForm, Token, TokenKind};

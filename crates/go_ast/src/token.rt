@@ -29,7 +29,7 @@ pub enum TokenKind {
 
 /// What a piece of a text looks like. A text is cut into pieces before it is asked whether each of them is a good one.
 #[derive(Clone, Copy, Debug, PartialEq, Eq)]
-pub enum Form {
+pub enum PieceForm {
     /// A space, or a comment without a newline.
     Blank,
     /// A newline, or a comment with one.

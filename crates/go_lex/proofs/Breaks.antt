@@ -6,8 +6,8 @@ use Rattle.std.specs.Str.{encode_utf8_all}
 use Rattle.std.specs.Char.{IsScalar}
 use Rattle.std.proofs.lemmas.List.{append-nil, length-append}
 use Rattle.std.proofs.lemmas.Str.{encode_same}
-use Rattle.go_ast.specs.declared.token.Form.{Form}
-use Rattle.go_ast.specs.declared.token.Form.TheVariants as form
+use Rattle.go_ast.specs.declared.token.PieceForm.{PieceForm}
+use Rattle.go_ast.specs.declared.token.PieceForm.TheVariants as form
 use Rattle.go_ast.specs.declared.kind.LexKind.{LexKind}
 use Rattle.go_ast.specs.declared.kind.LexKind.TheVariants as fault
 use Rattle.go_ast.specs.Characters.{is_banned, BeginsWith, IsSourceCharacter, AreCharacters}
@@ -144,7 +144,7 @@ bad_row rest fault.BadEscape bad = absurd bad
 kind_row : (kind k : LexKind) → kind ≡ k → 2 ≤ row k → 2 ≤ row kind
 kind_row kind k e le = let same : row kind ≡ row k = ap row e in omega arith
 
-pub flaw_row : (f : Form) (bytes : List ℕ) (at : ℕ) (kind : LexKind) → IsFlaw f bytes at kind → 2 ≤ row kind
+pub flaw_row : (f : PieceForm) (bytes : List ℕ) (at : ℕ) (kind : LexKind) → IsFlaw f bytes at kind → 2 ≤ row kind
 flaw_row form.Opening bytes at kind l = kind_row kind fault.BadComment l.1 (omega arith)
 flaw_row form.Number bytes at kind l = kind_row kind fault.BadNumber l.1 (omega arith)
 flaw_row form.Rune bytes at kind (inl l) = kind_row kind fault.BadRune l.1 (omega arith)

@@ -4,7 +4,7 @@ use Rattle.std.specs.Prelude.{encode_utf8}
 use Rattle.std.specs.Str.{encode_utf8_all, IsUtf8, is_utf8, StartsWithNoChar}
 use Rattle.std.proofs.lemmas.List.{append-nil, length-append, length-take, length-drop, take_at, drop_at, take-append-drop}
 use Rattle.std.proofs.lemmas.Str.{IsUtf8-from_is_utf8, is_utf8-from_IsUtf8, IsUtf8-encode}
-use Rattle.go_ast.specs.declared.token.Form.{Form}
+use Rattle.go_ast.specs.declared.token.PieceForm.{PieceForm}
 use Rattle.go_ast.specs.Characters.{is_letter, is_letter_or_digit, BeginsWith}
 use Rattle.go_ast.specs.Pieces.{HasForm, IsLongest, IsStuck}
 use Rattle.go_lex.specs.Pieces.{piece_by}
@@ -123,7 +123,7 @@ word_exists bytes = by (character_cases bytes)
 
 -- ---- the longest piece is the one that is found
 
-pub longest_at : (text : List ℕ) (word : ℕ) (p : Form × ℕ) → IsWordLen text word → piece_by word text ≡ Some p → IsLongest p.0 (take p.1 text) (drop p.1 text)
+pub longest_at : (text : List ℕ) (word : ℕ) (p : PieceForm × ℕ) → IsWordLen text word → piece_by word text ≡ Some p → IsLongest p.0 (take p.1 text) (drop p.1 text)
 longest_at text word p len e =
     let f = sound text word p len e in
     let whole : take p.1 text ++ drop p.1 text ≡ text = take-append-drop p.1 text in
@@ -132,7 +132,7 @@ longest_at text word p len e =
       longest = λ other others after has same.
           let g = reaches other others text after word has (sym whole ∙ same) len in
           let one : (g.other, g.len) ≡ p = piece_same (g.other, g.len) p (sym g.found ∙ e) in
-          let long : g.len ≡ p.1 = ap (λ (q : Form × ℕ). q.1) one in
+          let long : g.len ≡ p.1 = ap (λ (q : PieceForm × ℕ). q.1) one in
           let k = length-take p.1 text in
           let l = g.long in
           let within = f.within in
@@ -145,7 +145,7 @@ none_stuck text word some len e = record {
   none = λ f bytes after has same. let g = reaches f bytes text after word has same len in let one : some_piece (g.other, g.len) ≡ None = sym g.found ∙ e in absurd cc;
 }
 
-pub longest_read : (f : Form) (bytes rest : List ℕ) (word : ℕ) → IsLongest f bytes rest → IsWordLen (bytes ++ rest) word → piece_by word (bytes ++ rest) ≡ Some (f, length bytes)
+pub longest_read : (f : PieceForm) (bytes rest : List ℕ) (word : ℕ) → IsLongest f bytes rest → IsWordLen (bytes ++ rest) word → piece_by word (bytes ++ rest) ≡ Some (f, length bytes)
 longest_read f bytes rest word l len =
     let g = reaches f bytes (bytes ++ rest) rest word l.has_form refl len in
     let s = sound (bytes ++ rest) word (g.other, g.len) len g.found in
@@ -156,31 +156,31 @@ longest_read f bytes rest word l len =
     let same : g.len ≡ length bytes = omega arith in
     g.found ∙ rw (g.only same, same) refl
 
-pub record IsSame (f g : Form) (bytes others rest after : List ℕ) : Type 0 where
+pub record IsSame (f g : PieceForm) (bytes others rest after : List ℕ) : Type 0 where
   pub form : f ≡ g
   pub bytes_same : bytes ≡ others
   pub rest_same : rest ≡ after
 
 -- one piece is the longest
-pub same_piece : (f g : Form) (bytes others rest after : List ℕ) → IsLongest f bytes rest → IsLongest g others after → bytes ++ rest ≡ others ++ after → IsSame f g bytes others rest after
+pub same_piece : (f g : PieceForm) (bytes others rest after : List ℕ) → IsLongest f bytes rest → IsLongest g others after → bytes ++ rest ≡ others ++ after → IsSame f g bytes others rest after
 same_piece f g bytes others rest after l m e =
     let w = word_exists (bytes ++ rest) in
     let one = longest_read f bytes rest w.0 l w.1 in
     let two = longest_read g others after w.0 m (subst (λ (t : List ℕ). IsWordLen t w.0) e w.1) in
     let same : (f, length bytes) ≡ (g, length others) = piece_same (f, length bytes) (g, length others) (sym one ∙ ap (piece_by w.0) e ∙ two) in
-    let len : length bytes ≡ length others = ap (λ (q : Form × ℕ). q.1) same in
+    let len : length bytes ≡ length others = ap (λ (q : PieceForm × ℕ). q.1) same in
     record {
-      form = ap (λ (q : Form × ℕ). q.0) same;
+      form = ap (λ (q : PieceForm × ℕ). q.0) same;
       bytes_same = sym (take_at bytes rest (length bytes) refl) ∙ ap (take (length bytes)) e ∙ take_at others after (length bytes) (sym len);
       rest_same = sym (drop_at bytes rest (length bytes) refl) ∙ ap (drop (length bytes)) e ∙ drop_at others after (length bytes) (sym len);
     }
 
 -- where nothing begins there is no piece
-pub stuck_none : (f : Form) (bytes after rest : List ℕ) → IsStuck rest → IsLongest f bytes after → rest ≡ bytes ++ after → ⊥
+pub stuck_none : (f : PieceForm) (bytes after rest : List ℕ) → IsStuck rest → IsLongest f bytes after → rest ≡ bytes ++ after → ⊥
 stuck_none f bytes after rest stuck l e = stuck.none f bytes after l.has_form e
 
 -- a piece has a byte
-pub piece_some : (f : Form) (bytes : List ℕ) → HasForm f bytes → 1 ≤ length bytes
+pub piece_some : (f : PieceForm) (bytes : List ℕ) → HasForm f bytes → 1 ≤ length bytes
 piece_some f bytes has =
     let w = word_exists (bytes ++ []) in
     let g = reaches f bytes (bytes ++ []) [] w.0 has refl w.1 in

@@ -7,8 +7,8 @@ use Rattle.std.specs.Char.{IsScalar}
 use Rattle.std.proofs.lemmas.List.{length-append}
 use Rattle.std.proofs.lemmas.Str.{encodes-append, char_from_byte, encode_ascii}
 use Rattle.std.proofs.lemmas.Bool.{ltb-true, ltb-false, eqb-true}
-use Rattle.go_ast.specs.declared.token.Form.{Form}
-use Rattle.go_ast.specs.declared.token.Form.TheVariants as form
+use Rattle.go_ast.specs.declared.token.PieceForm.{PieceForm}
+use Rattle.go_ast.specs.declared.token.PieceForm.TheVariants as form
 use Rattle.go_ast.specs.declared.kind.LexKind.{LexKind}
 use Rattle.go_ast.specs.declared.kind.LexKind.TheVariants as fault
 use Rattle.go_ast.specs.Characters.{is_banned, BeginsWith, IsSourceCharacter, AreCharacters}
@@ -32,7 +32,7 @@ between_len quote piece is = let l = length-append (inner piece) (quote ∷ []) 
 bad_some : (quote : ℕ) (bytes : List ℕ) → IsBadEscape quote bytes → 1 ≤ length bytes
 bad_some quote bytes bad = let k : length bytes ≡ length (92 ∷ bad.slash.0) = ap length bad.slash.1 in omega arith
 
-flaw_within : (f : Form) (piece : List ℕ) (at : ℕ) (kind : LexKind) → HasForm f piece → IsFlaw f piece at kind → at < length piece
+flaw_within : (f : PieceForm) (piece : List ℕ) (at : ℕ) (kind : LexKind) → HasForm f piece → IsFlaw f piece at kind → at < length piece
 flaw_within form.Opening piece at kind has l = let some = piece_some form.Opening piece has in let z = l.0 in omega arith
 flaw_within form.Number piece at kind has l = let some = piece_some form.Number piece has in let z = l.0 in omega arith
 flaw_within form.Rune piece at kind has (inl l) = let some = piece_some form.Rune piece has in let z = l.0 in omega arith
@@ -49,7 +49,7 @@ flaw_within form.Raw piece at kind has l = absurd l
 flaw_within (form.Operator place) piece at kind has l = absurd l
 
 -- a bad character in a piece is one in the text
-bad_onward : (f : Form) (piece more cs r : List ℕ) (kind : LexKind) → IsLongest f piece more → piece ≡ encode_utf8_all cs ++ r → IsBadCharacter r kind → IsBadCharacter (r ++ more) kind
+bad_onward : (f : PieceForm) (piece more cs r : List ℕ) (kind : LexKind) → IsLongest f piece more → piece ≡ encode_utf8_all cs ++ r → IsBadCharacter r kind → IsBadCharacter (r ++ more) kind
 bad_onward f piece more cs r fault.BadUtf8 l e bad = ((λ none. bad.0 (front r none)), sealed f piece more cs r l e bad.0 bad.1)
   where
     front : (xs : List ℕ) → xs ++ more ≡ [] → xs ≡ []
@@ -63,12 +63,12 @@ bad_onward f piece more cs r fault.BadRune l e bad = bad
 bad_onward f piece more cs r fault.BadText l e bad = bad
 bad_onward f piece more cs r fault.BadEscape l e bad = bad
 
-first_bad_onward : (f : Form) (piece more rest : List ℕ) (at : ℕ) (kind : LexKind) → IsLongest f piece more → rest ≡ piece ++ more → IsFirstBad piece at kind → IsFirstBad rest at kind
+first_bad_onward : (f : PieceForm) (piece more rest : List ℕ) (at : ℕ) (kind : LexKind) → IsLongest f piece more → rest ≡ piece ++ more → IsFirstBad piece at kind → IsFirstBad rest at kind
 first_bad_onward f piece more rest at kind l e b =
     (b.0, b.1 ++ more, b.2, e ∙ ap (λ (x : List ℕ). x ++ more) b.3 ∙ append_assoc (encode_utf8_all b.0) b.1 more, b.4, bad_onward f piece more b.0 b.1 kind l b.3 b.5)
 
 -- behind a place up to which all is good, bad characters stand further on
-bad_later : (f : Form) (piece more rest : List ℕ) (at other : ℕ) (kind : LexKind) → IsLongest f piece more → rest ≡ piece ++ more → at < length piece → IsGoodUpTo piece at → HasBadCharacter rest other kind → at < other
+bad_later : (f : PieceForm) (piece more rest : List ℕ) (at other : ℕ) (kind : LexKind) → IsLongest f piece more → rest ≡ piece ++ more → at < length piece → IsGoodUpTo piece at → HasBadCharacter rest other kind → at < other
 bad_later f piece more rest at other kind l e lt (inl are) bad =
     let b = behind are.0 more rest other kind are.1 (e ∙ ap (λ (x : List ℕ). x ++ more) are.2) bad in
     let place = b.place in
@@ -80,15 +80,15 @@ bad_later f piece more rest at other kind l e lt (inr g) bad = go (first_bad_bef
     go (inl h) = let later = g.3 in omega arith
     go (inr h) = let later = g.3 in let same = h.0 in omega arith
 
-bad_is_none : (f g : Form) (piece bytes more after rest : List ℕ) (at : ℕ) (kind : LexKind) → rest ≡ piece ++ more → IsLongest f piece more → IsFirstBad piece at kind → rest ≡ bytes ++ after → IsLongest g bytes after → AreCharacters bytes → ⊥
+bad_is_none : (f g : PieceForm) (piece bytes more after rest : List ℕ) (at : ℕ) (kind : LexKind) → rest ≡ piece ++ more → IsLongest f piece more → IsFirstBad piece at kind → rest ≡ bytes ++ after → IsLongest g bytes after → AreCharacters bytes → ⊥
 bad_is_none f g piece bytes more after rest at kind e l b d m are =
     let same = same_piece g f bytes piece after more m l (sym d ∙ e) in
     no_bad piece at kind (subst AreCharacters same.bytes_same are) (has_first piece at kind b)
 
-flaw_is_none : (f g : Form) (piece bytes more after rest : List ℕ) (at : ℕ) (kind : LexKind) → rest ≡ piece ++ more → IsLongest f piece more → IsFlaw f piece at kind → rest ≡ bytes ++ after → IsLongest g bytes after → IsMeant g bytes → ⊥
+flaw_is_none : (f g : PieceForm) (piece bytes more after rest : List ℕ) (at : ℕ) (kind : LexKind) → rest ≡ piece ++ more → IsLongest f piece more → IsFlaw f piece at kind → rest ≡ bytes ++ after → IsLongest g bytes after → IsMeant g bytes → ⊥
 flaw_is_none f g piece bytes more after rest at kind e l b d m meant = meant_no_break g bytes after rest at kind d m meant (inr (f, piece, more, e, l, b))
 
-rest_some : (f : Form) (piece more rest : List ℕ) → rest ≡ piece ++ more → HasForm f piece → rest ≢ []
+rest_some : (f : PieceForm) (piece more rest : List ℕ) → rest ≡ piece ++ more → HasForm f piece → rest ≢ []
 rest_some f piece more rest e has none =
     let some = piece_some f piece has in
     let l = length-append piece more in
@@ -96,11 +96,11 @@ rest_some f piece more rest e has none =
     let z : length rest ≡ 0 = ap length none in
     absurd (omega arith)
 
-bad_before_break : (f : Form) (piece more rest : List ℕ) (at other : ℕ) (kind other_kind : LexKind) → rest ≡ piece ++ more → IsLongest f piece more → IsFirstBad piece at kind → ((flaw : ℕ) (k : LexKind) → IsFlaw f piece flaw k → at ≤ flaw) → IsBreak rest other other_kind → IsBefore at kind other other_kind
+bad_before_break : (f : PieceForm) (piece more rest : List ℕ) (at other : ℕ) (kind other_kind : LexKind) → rest ≡ piece ++ more → IsLongest f piece more → IsFirstBad piece at kind → ((flaw : ℕ) (k : LexKind) → IsFlaw f piece flaw k → at ≤ flaw) → IsBreak rest other other_kind → IsBefore at kind other other_kind
 bad_before_break f piece more rest at other kind other_kind e l b first (inl s) = absurd (stuck_none f piece more rest s.0 l e)
 bad_before_break f piece more rest at other kind other_kind e l b first (inr s) =
     let same = same_piece s.0 f s.1 piece s.2 more s.4 l (sym s.3 ∙ e) in
-    let flaw : IsFlaw f piece other other_kind = subst (λ (g : Form). IsFlaw g piece other other_kind) same.form (subst (λ (x : List ℕ). IsFlaw s.0 x other other_kind) same.bytes_same s.5) in
+    let flaw : IsFlaw f piece other other_kind = subst (λ (g : PieceForm). IsFlaw g piece other other_kind) same.form (subst (λ (x : List ℕ). IsFlaw s.0 x other other_kind) same.bytes_same s.5) in
     let le = first other other_kind flaw in
     let low = bad_row b.1 kind b.5 in
     let high = flaw_row f piece other other_kind flaw in
@@ -114,7 +114,7 @@ equal_before : (at other : ℕ) (kind other_kind : LexKind) → (at ≡ other) �
 equal_before at other kind other_kind same = inr (same.0, same_row kind other_kind same.1)
 
 -- the first fault in the longest piece is the first reason
-pub first_in_piece : (f : Form) (piece more rest : List ℕ) (at : ℕ) (kind : LexKind) → rest ≡ piece ++ more → IsLongest f piece more → IsFaultIn f piece at kind → IsFirstBreak rest at kind
+pub first_in_piece : (f : PieceForm) (piece more rest : List ℕ) (at : ℕ) (kind : LexKind) → rest ≡ piece ++ more → IsLongest f piece more → IsFaultIn f piece at kind → IsFirstBreak rest at kind
 first_in_piece f piece more rest at kind e l (inl b) = record {
   some = rest_some f piece more rest e l.has_form;
   has = inl (has_first rest at kind (first_bad_onward f piece more rest at kind l e b.0));

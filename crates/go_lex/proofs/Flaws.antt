@@ -4,8 +4,8 @@ use Rattle.std.specs.Prelude.{encode_utf8}
 use Rattle.std.proofs.lemmas.List.{append-nil, length-append, take_at, drop_at}
 use Rattle.std.proofs.lemmas.Str.{char_from_byte}
 use Rattle.std.proofs.lemmas.Bool.{eqb-true}
-use Rattle.go_ast.specs.declared.token.Form.{Form}
-use Rattle.go_ast.specs.declared.token.Form.TheVariants as form
+use Rattle.go_ast.specs.declared.token.PieceForm.{PieceForm}
+use Rattle.go_ast.specs.declared.token.PieceForm.TheVariants as form
 use Rattle.go_ast.specs.declared.kind.LexKind.{LexKind}
 use Rattle.go_ast.specs.declared.kind.LexKind.TheVariants as fault
 use Rattle.go_ast.specs.Characters.{BeginsWith}
@@ -138,7 +138,7 @@ many_not_bad body (inr (inr m)) bad = m.2 (cons_head m.0 92 m.1 bad.slash.0 (sym
 
 -- ---- flaws
 
-pub meant_not_flawed : (f : Form) (bytes : List ℕ) (at : ℕ) (kind : LexKind) → IsMeant f bytes → IsFlaw f bytes at kind → ⊥
+pub meant_not_flawed : (f : PieceForm) (bytes : List ℕ) (at : ℕ) (kind : LexKind) → IsMeant f bytes → IsFlaw f bytes at kind → ⊥
 meant_not_flawed form.Opening bytes at kind m l = m
 meant_not_flawed form.Number bytes at kind m l = absurd_bool (is_int bytes) m l.2
 meant_not_flawed form.Rune bytes at kind m (inl l) = rune_not_many (inner bytes) m l.2
@@ -150,7 +150,7 @@ meant_not_flawed form.Word bytes at kind m l = l
 meant_not_flawed form.Raw bytes at kind m l = l
 meant_not_flawed (form.Operator place) bytes at kind m l = l
 
-pub same_flaw : (f : Form) (bytes : List ℕ) (at other : ℕ) (kind other_kind : LexKind) → IsFlaw f bytes at kind → IsFlaw f bytes other other_kind → (at ≡ other) × (kind ≡ other_kind)
+pub same_flaw : (f : PieceForm) (bytes : List ℕ) (at other : ℕ) (kind other_kind : LexKind) → IsFlaw f bytes at kind → IsFlaw f bytes other other_kind → (at ≡ other) × (kind ≡ other_kind)
 same_flaw form.Opening bytes at other kind other_kind a b = (a.0 ∙ sym b.0, a.1 ∙ sym b.1)
 same_flaw form.Number bytes at other kind other_kind a b = (a.0 ∙ sym b.0, a.1 ∙ sym b.1)
 same_flaw form.Rune bytes at other kind other_kind (inl a) (inl b) = (a.0 ∙ sym b.0, a.1 ∙ sym b.1)
@@ -228,12 +228,12 @@ same_break rest at other kind other_kind (inr a) (inl b) = absurd (stuck_none a.
 same_break rest at other kind other_kind (inr a) (inr b) =
     let same = same_piece b.0 a.0 b.1 a.1 b.2 a.2 b.4 a.4 (sym b.3 ∙ a.3) in
     same_flaw a.0 a.1 at other kind other_kind a.5
-    (subst (λ (f : Form). IsFlaw f a.1 other other_kind) same.form (subst (λ (x : List ℕ). IsFlaw b.0 x other other_kind) same.bytes_same b.5))
+    (subst (λ (f : PieceForm). IsFlaw f a.1 other other_kind) same.form (subst (λ (x : List ℕ). IsFlaw b.0 x other other_kind) same.bytes_same b.5))
 
 -- where a meant piece stands nothing breaks
-pub meant_no_break : (f : Form) (bytes more rest : List ℕ) (at : ℕ) (kind : LexKind) → rest ≡ bytes ++ more → IsLongest f bytes more → IsMeant f bytes → IsBreak rest at kind → ⊥
+pub meant_no_break : (f : PieceForm) (bytes more rest : List ℕ) (at : ℕ) (kind : LexKind) → rest ≡ bytes ++ more → IsLongest f bytes more → IsMeant f bytes → IsBreak rest at kind → ⊥
 meant_no_break f bytes more rest at kind e l m (inl a) = stuck_none f bytes more rest a.0 l e
 meant_no_break f bytes more rest at kind e l m (inr a) =
     let same = same_piece a.0 f a.1 bytes a.2 more a.4 l (sym a.3 ∙ e) in
     meant_not_flawed f bytes at kind m
-    (subst (λ (g : Form). IsFlaw g bytes at kind) same.form (subst (λ (x : List ℕ). IsFlaw a.0 x at kind) same.bytes_same a.5))
+    (subst (λ (g : PieceForm). IsFlaw g bytes at kind) same.form (subst (λ (x : List ℕ). IsFlaw a.0 x at kind) same.bytes_same a.5))

@@ -2,8 +2,8 @@
 use Rattle.std.proofs.Common.{◌≡◌, ℕ, zero, suc, ◌+◌, ◌≤◌, Bool, true, false, ◌||◌, inl, inr, cond, List, [], ◌∷◌, ◌++◌, Option, Some, None, refl, sym, ap, subst, ◌∙◌, arith, nat_eq}
 use Rattle.std.specs.Prelude.{slice_get}
 use Rattle.std.proofs.lemmas.Bool.{eqb-true}
-use Rattle.go_ast.specs.declared.token.Form.{Form}
-use Rattle.go_ast.specs.declared.token.Form.TheVariants as form
+use Rattle.go_ast.specs.declared.token.PieceForm.{PieceForm}
+use Rattle.go_ast.specs.declared.token.PieceForm.TheVariants as form
 use Rattle.go_ast.specs.Numbers.{is_decimal}
 use Rattle.go_ast.specs.Words.{operators}
 use Rattle.go_ast.specs.Pieces.{HasForm}
@@ -122,7 +122,7 @@ known_reaches place bytes rest word is known len = go (is_plain_word bytes) (sam
 
 -- ---- each form
 
-pub reaches : (f : Form) (bytes text rest : List ℕ) (word : ℕ) → HasForm f bytes → text ≡ bytes ++ rest → IsWordLen text word → Reaches f bytes text word
+pub reaches : (f : PieceForm) (bytes text rest : List ℕ) (word : ℕ) → HasForm f bytes → text ≡ bytes ++ rest → IsWordLen text word → Reaches f bytes text word
 reaches form.Blank bytes text rest word (inl p) e len =
     let text-is : text ≡ p.0 ∷ rest = e ∙ ap (λ (x : List ℕ). x ++ rest) p.2 in
     subst (λ (b : List ℕ). Reaches form.Blank b text word) (sym p.2)

@@ -5,8 +5,8 @@ use Rattle.std.specs.List.{list_any}
 use Rattle.std.specs.Str.{encode_utf8_all}
 use Rattle.std.proofs.lemmas.List.{length-append}
 use Rattle.std.proofs.lemmas.Bool.{eqb-true, lt-ltb, leb-true}
-use Rattle.go_ast.specs.declared.token.Form.{Form}
-use Rattle.go_ast.specs.declared.token.Form.TheVariants as form
+use Rattle.go_ast.specs.declared.token.PieceForm.{PieceForm}
+use Rattle.go_ast.specs.declared.token.PieceForm.TheVariants as form
 use Rattle.go_ast.specs.Numbers.{is_decimal, is_run}
 use Rattle.go_ast.specs.Literals.{inner}
 use Rattle.go_ast.specs.Pieces.{IsBetween, IsWord, IsNumber}
@@ -21,8 +21,8 @@ use Rattle.go_lex.proofs.Table.{is_ascii_letter}
 use Rattle.go_lex.proofs.Letters.{no_word}
 
 -- a piece of this form at the front gives one that is as long
-pub record Reaches (form : Form) (bytes text : List ℕ) (word : ℕ) : Type 0 where
-  pub other : Form
+pub record Reaches (form : PieceForm) (bytes text : List ℕ) (word : ℕ) : Type 0 where
+  pub other : PieceForm
   pub len : ℕ
   pub found : piece_by word text ≡ Some (other, len)
   pub long : length bytes ≤ len
@@ -128,7 +128,7 @@ pub other_is : (b : ℕ) (bs : List ℕ) (word : ℕ) → IsOther b → IsWordLe
 other_is b bs word is len = piece_is word (b ∷ bs) (no_word b bs word is.ascii is.letter len) (no_number b bs is.point is.digit)
 
 -- the piece found at a front of another kind, by its computing
-pub reaches_by : (f : Form) (b : ℕ) (bs rest : List ℕ) (word n : ℕ) → IsOther b → other_front (b ∷ (bs ++ rest)) ≡ Some (f, n) → n ≡ length (b ∷ bs) → IsWordLen (b ∷ (bs ++ rest)) word → Reaches f (b ∷ bs) (b ∷ (bs ++ rest)) word
+pub reaches_by : (f : PieceForm) (b : ℕ) (bs rest : List ℕ) (word n : ℕ) → IsOther b → other_front (b ∷ (bs ++ rest)) ≡ Some (f, n) → n ≡ length (b ∷ bs) → IsWordLen (b ∷ (bs ++ rest)) word → Reaches f (b ∷ bs) (b ∷ (bs ++ rest)) word
 reaches_by f b bs rest word n is front long len = record { other = f; len = n; found = other_is b (bs ++ rest) word is len ∙ front; long = omega arith; only = λ _. refl }
 
 pub space_other : (b : ℕ) → list_any (λ c. nat_eq b c) (32 ∷ 9 ∷ 13 ∷ []) ≡ true → (b ≡ 32) ⊎ (b ≡ 9) ⊎ (b ≡ 13)
@@ -177,10 +177,10 @@ pub line_reaches : (rest : List ℕ) (word : ℕ) → IsWordLen (10 ∷ rest) wo
 unfolding other_front
 line_reaches rest word len = reaches_by form.Line 10 [] rest word 1 other_10 refl refl len
 
-quoted_front : (f : Form) (o : Option ℕ) (n m : ℕ) → o ≡ Some n → 1 + n ≡ m → quoted_by f o ≡ Some (f, m)
+quoted_front : (f : PieceForm) (o : Option ℕ) (n m : ℕ) → o ≡ Some n → 1 + n ≡ m → quoted_by f o ≡ Some (f, m)
 quoted_front f o n m e k = rw (e, k) refl
 
-pub between_reaches : (f : Form) (quote : ℕ) (bytes text rest : List ℕ) (word : ℕ) → IsOther quote → nat_eq quote 10 ≡ false → ((more : List ℕ) → other_front (quote ∷ more) ≡ quoted_by f (quote_close quote false 0 more)) → IsBetween quote bytes → text ≡ bytes ++ rest → IsWordLen text word → Reaches f bytes text word
+pub between_reaches : (f : PieceForm) (quote : ℕ) (bytes text rest : List ℕ) (word : ℕ) → IsOther quote → nat_eq quote 10 ≡ false → ((more : List ℕ) → other_front (quote ∷ more) ≡ quoted_by f (quote_close quote false 0 more)) → IsBetween quote bytes → text ≡ bytes ++ rest → IsWordLen text word → Reaches f bytes text word
 between_reaches f quote bytes text rest word is-other n front is e len =
     let body = inner bytes in
     let text-is : text ≡ quote ∷ ((body ++ quote ∷ []) ++ rest) = e ∙ ap (λ (x : List ℕ). x ++ rest) is.1 in

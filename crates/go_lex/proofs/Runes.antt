@@ -6,8 +6,8 @@ use Rattle.std.specs.Str.{encode_utf8_all, StartsWithNoChar}
 use Rattle.std.specs.Char.{IsScalar}
 use Rattle.std.proofs.lemmas.List.{append-nil, length-append, take-append-drop, length-drop}
 use Rattle.std.proofs.lemmas.Str.{encode_same, encode_ascii, inside_one, length-encode, len_utf8_ascii}
-use Rattle.go_ast.specs.declared.token.Form.{Form}
-use Rattle.go_ast.specs.declared.token.Form.TheVariants as form
+use Rattle.go_ast.specs.declared.token.PieceForm.{PieceForm}
+use Rattle.go_ast.specs.declared.token.PieceForm.TheVariants as form
 use Rattle.go_ast.specs.declared.kind.LexKind.{LexKind}
 use Rattle.go_ast.specs.declared.kind.LexKind.TheVariants as fault
 use Rattle.go_ast.specs.Characters.{AreCharacters, IsSourceCharacter}
@@ -151,16 +151,16 @@ pub quoted_unflawed : (piece body : List ℕ) → body ≡ inner piece → IsQuo
 quoted_unflawed piece body e good = let good' : IsQuotedBody (inner piece) = subst IsQuotedBody e good in record { meant = λ _. good'; none = λ at kind f. quoted_not_bad (inner piece) at good' f.1 }
 
 -- the bad character where no flaw stands before it
-pub bad_first : (f : Form) (piece : List ℕ) (bad flaw : ℕ × LexKind) → IsFirstBad piece bad.0 bad.1 → IsFlaw f piece flaw.0 flaw.1 → bad.0 ≤ flaw.0 → IsFaultIn f piece bad.0 bad.1
+pub bad_first : (f : PieceForm) (piece : List ℕ) (bad flaw : ℕ × LexKind) → IsFirstBad piece bad.0 bad.1 → IsFlaw f piece flaw.0 flaw.1 → bad.0 ≤ flaw.0 → IsFaultIn f piece bad.0 bad.1
 bad_first f piece bad flaw b l le = inl (b, λ other kind m. let same = (same_flaw f piece flaw.0 other flaw.1 kind l m).0 in omega arith)
 
-pub flaw_first : (f : Form) (piece : List ℕ) (bad flaw : ℕ × LexKind) → IsFirstBad piece bad.0 bad.1 → IsFlaw f piece flaw.0 flaw.1 → flaw.0 < bad.0 → IsFaultIn f piece flaw.0 flaw.1
+pub flaw_first : (f : PieceForm) (piece : List ℕ) (bad flaw : ℕ × LexKind) → IsFirstBad piece bad.0 bad.1 → IsFlaw f piece flaw.0 flaw.1 → flaw.0 < bad.0 → IsFaultIn f piece flaw.0 flaw.1
 flaw_first f piece bad flaw b l lt = inr (l, inr (bad.0, bad.1, b, lt))
 
-pub rune_form : (f : Form) (piece body : List ℕ) (o : Option (ℕ × LexKind)) → f ≡ form.Rune → HasForm f piece → body ≡ inner piece → MatchOption o (IsUnflawedRune body) (λ p. IsRuneFlaw body p.0 p.1) → MatchOption o (IsUnflawed f piece) (λ p. IsFlaw f piece p.0 p.1)
+pub rune_form : (f : PieceForm) (piece body : List ℕ) (o : Option (ℕ × LexKind)) → f ≡ form.Rune → HasForm f piece → body ≡ inner piece → MatchOption o (IsUnflawedRune body) (λ p. IsRuneFlaw body p.0 p.1) → MatchOption o (IsUnflawed f piece) (λ p. IsFlaw f piece p.0 p.1)
 rune_form f piece body o is has e u =
-    let P : Form → Type 0 = λ g. HasForm g piece → MatchOption o (IsUnflawed g piece) (λ p. IsFlaw g piece p.0 p.1) in
+    let P : PieceForm → Type 0 = λ g. HasForm g piece → MatchOption o (IsUnflawed g piece) (λ p. IsFlaw g piece p.0 p.1) in
     subst P (sym is) (λ h. rune_by piece body o h e u) has
 
-pub quoted_form : (f : Form) (piece body : List ℕ) → f ≡ form.Quoted → body ≡ inner piece → IsQuotedBody body → IsUnflawed f piece
+pub quoted_form : (f : PieceForm) (piece body : List ℕ) → f ≡ form.Quoted → body ≡ inner piece → IsQuotedBody body → IsUnflawed f piece
 quoted_form f piece body is e good = subst (λ g. IsUnflawed g piece) (sym is) (quoted_unflawed piece body e good)

@@ -7,8 +7,8 @@ use Rattle.std.specs.Char.{IsScalar}
 use Rattle.std.proofs.lemmas.List.{append-nil, length-append, take_at, take-append-drop, take-append-le}
 use Rattle.std.proofs.lemmas.Str.{encode_same, inside_one, length-encode, len_utf8_ascii}
 use Rattle.std.proofs.lemmas.Bool.{eqb-true, leb-true, leb-false, ltb-true, lt-ltb}
-use Rattle.go_ast.specs.declared.token.Form.{Form}
-use Rattle.go_ast.specs.declared.token.Form.TheVariants as form
+use Rattle.go_ast.specs.declared.token.PieceForm.{PieceForm}
+use Rattle.go_ast.specs.declared.token.PieceForm.TheVariants as form
 use Rattle.go_ast.specs.Places.{is_newline}
 use Rattle.go_ast.specs.Numbers.{is_decimal, is_hex, is_x, is_o, is_b, is_decimal_or_line, is_hex_or_line, is_run, is_run_after_zero, is_number_end}
 use Rattle.go_ast.specs.Literals.{inner}
@@ -130,7 +130,7 @@ space_end b (inl e) = omega arith
 space_end b (inr (inl e)) = omega arith
 space_end b (inr (inr e)) = omega arith
 
-pub seal_of : (f : Form) (piece : List ℕ) → HasForm f piece → Seal piece
+pub seal_of : (f : PieceForm) (piece : List ℕ) → HasForm f piece → Seal piece
 seal_of form.Blank piece (inl p) = ascii (low_end piece [] p.0 p.2 (space_end p.0 (space_other p.0 p.1)))
 seal_of form.Blank piece (inr (inl is)) = line is
 seal_of form.Blank piece (inr (inr is)) = ascii (block_end piece is.0)
@@ -207,7 +207,7 @@ any_append p [] b e f = rw f refl
 any_append p (x ∷ xs) b e f = let two = either (p x) (list_any p xs) e in rw two.0 (any_append p xs b two.1 f)
 
 -- a comment goes up to a newline
-line_end : (f : Form) (piece : List ℕ) (b : ℕ) (more : List ℕ) → IsLineComment piece → IsLongest f piece (b ∷ more) → b ≡ 10
+line_end : (f : PieceForm) (piece : List ℕ) (b : ℕ) (more : List ℕ) → IsLineComment piece → IsLongest f piece (b ∷ more) → b ≡ 10
 line_end f piece b more is l = go (nat_eq b 10) refl
   where
     go : (v : Bool) → nat_eq b 10 ≡ v → b ≡ 10
@@ -228,7 +228,7 @@ line_sealed_by x xs more rest b c end is none e = go (nat_le (length (encode_utf
         let byte = get_behind (x ∷ xs) more b in
         wide c (length (x ∷ xs)) rest ((x ∷ xs) ++ b ∷ more) e (omega arith) longer (omega arith)
 
-line_sealed : (f : Form) (piece r more : List ℕ) → IsLineComment piece → IsLongest f piece more → r ≢ [] → StartsWithNoChar r → StartsWithNoChar (r ++ more)
+line_sealed : (f : PieceForm) (piece r more : List ℕ) → IsLineComment piece → IsLongest f piece more → r ≢ [] → StartsWithNoChar r → StartsWithNoChar (r ++ more)
 line_sealed f piece r [] is l some none = subst StartsWithNoChar (sym (append-nil r)) none
 line_sealed f piece [] (b ∷ more) is l some none = absurd (some refl)
 line_sealed f piece (x ∷ xs) (b ∷ more) is l some none = λ c rest scalar e. line_sealed_by x xs more rest b c (line_end f piece b more is l) scalar none e
@@ -237,7 +237,7 @@ last_behind : (xs r : List ℕ) → r ≢ [] → last (xs ++ r) ≡ last r
 last_behind xs [] some = absurd (some refl)
 last_behind xs (y ∷ ys) some = last_append xs y ys
 
-pub sealed : (f : Form) (piece more cs r : List ℕ) → IsLongest f piece more → piece ≡ encode_utf8_all cs ++ r → r ≢ [] → StartsWithNoChar r → StartsWithNoChar (r ++ more)
+pub sealed : (f : PieceForm) (piece more cs r : List ℕ) → IsLongest f piece more → piece ≡ encode_utf8_all cs ++ r → r ≢ [] → StartsWithNoChar r → StartsWithNoChar (r ++ more)
 sealed f piece more cs r l e some none = go (seal_of f piece l.has_form)
   where
     go : Seal piece → StartsWithNoChar (r ++ more)

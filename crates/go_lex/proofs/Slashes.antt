@@ -4,8 +4,8 @@ use Rattle.std.specs.Prelude.{slice_get}
 use Rattle.std.specs.List.{list_all, list_any}
 use Rattle.std.proofs.lemmas.List.{length-append, take_at}
 use Rattle.std.proofs.lemmas.Bool.{ltb-true}
-use Rattle.go_ast.specs.declared.token.Form.{Form}
-use Rattle.go_ast.specs.declared.token.Form.TheVariants as form
+use Rattle.go_ast.specs.declared.token.PieceForm.{PieceForm}
+use Rattle.go_ast.specs.declared.token.PieceForm.TheVariants as form
 use Rattle.go_ast.specs.Places.{is_newline}
 use Rattle.go_ast.specs.Numbers.{is_decimal}
 use Rattle.go_ast.specs.Words.{operators}
@@ -56,8 +56,8 @@ pub block_is : (bytes : List ℕ) → slash_front (42 ∷ bytes) ≡ Some (block
 unfolding slash_front
 block_is bytes = refl
 
-some_piece : (a b : Form × ℕ) → a ≡ b → Some a ≡ Some b
-some_piece a b e = ap (λ (p : Form × ℕ). Some p) e
+some_piece : (a b : PieceForm × ℕ) → a ≡ b → Some a ≡ Some b
+some_piece a b e = ap (λ (p : PieceForm × ℕ). Some p) e
 
 block_comment : (more rest : List ℕ) (word : ℕ) (v : Bool) → ((before after : List ℕ) → more ++ 42 ∷ [] ≢ before ++ 42 ∷ 47 ∷ after) → list_any is_newline (more ++ 42 ∷ 47 ∷ []) ≡ v
     → IsWordLen (47 ∷ 42 ∷ ((more ++ 42 ∷ 47 ∷ []) ++ rest)) word → Reaches (cond v form.Line form.Blank) (47 ∷ 42 ∷ (more ++ 42 ∷ 47 ∷ [])) (47 ∷ 42 ∷ ((more ++ 42 ∷ 47 ∷ []) ++ rest)) word

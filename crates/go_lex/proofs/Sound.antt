@@ -3,8 +3,8 @@ use Rattle.std.proofs.Common.{◌≡◌, ◌≢◌, ℕ, suc, ◌+◌, ◌≤◌
 use Rattle.std.specs.List.{list_all, list_any, prefix_len}
 use Rattle.std.proofs.lemmas.List.{length-append, length-take, take_at}
 use Rattle.std.proofs.lemmas.Bool.{eqb-true, ltb-true}
-use Rattle.go_ast.specs.declared.token.Form.{Form}
-use Rattle.go_ast.specs.declared.token.Form.TheVariants as form
+use Rattle.go_ast.specs.declared.token.PieceForm.{PieceForm}
+use Rattle.go_ast.specs.declared.token.PieceForm.TheVariants as form
 use Rattle.go_ast.specs.Places.{is_newline}
 use Rattle.go_ast.specs.Literals.{is_inside}
 use Rattle.go_ast.specs.Words.{operators}
@@ -19,15 +19,15 @@ use Rattle.go_lex.proofs.Closes.{not_true, close_sound, quote_sound, raw_sound, 
 use Rattle.go_lex.proofs.Table.{operator_found}
 use Rattle.go_lex.proofs.Slashes.{is_space, is_other_byte, all_at}
 
-pub record IsSound (text : List ℕ) (piece : Form × ℕ) : Type 0 where
+pub record IsSound (text : List ℕ) (piece : PieceForm × ℕ) : Type 0 where
   pub has : HasForm piece.0 (take piece.1 text)
   pub some : 1 ≤ piece.1
   pub within : piece.1 ≤ length text
 
-abbrev pub some_piece : Form × ℕ → Option (Form × ℕ)
+abbrev pub some_piece : PieceForm × ℕ → Option (PieceForm × ℕ)
 some_piece p = Some p
 
-pub piece_same : (a b : Form × ℕ) → some_piece a ≡ some_piece b → a ≡ b
+pub piece_same : (a b : PieceForm × ℕ) → some_piece a ≡ some_piece b → a ≡ b
 piece_same a b e = cc
 
 abbrev has_byte : List ℕ → Bool
@@ -38,7 +38,7 @@ byte_some : (w : List ℕ) → has_byte w ≡ true → 1 ≤ length w
 byte_some [] e = absurd cc
 byte_some (b ∷ bs) e = omega arith
 
-operator_by_sound : (text : List ℕ) (o : Option (ℕ × ℕ)) (p : Form × ℕ) → first_of by_front text ≡ o → operator_by o ≡ Some p → IsSound text p
+operator_by_sound : (text : List ℕ) (o : Option (ℕ × ℕ)) (p : PieceForm × ℕ) → first_of by_front text ≡ o → operator_by o ≡ Some p → IsSound text p
 operator_by_sound text None p o-is e = absurd cc
 operator_by_sound text (Some q) p o-is e =
     let f = operator_found text q.0 q.1 o-is in
@@ -48,7 +48,7 @@ operator_by_sound text (Some q) p o-is e =
     let k : length (take q.1 text) ≡ length f.word = ap length f.stands in
     subst (IsSound text) (piece_same (form.Operator q.0, q.1) p e) (record { has = f.is ∙ ap (λ (w : List ℕ). Some w) (sym f.stands); some = omega arith; within = omega arith })
 
-operator_sound : (text : List ℕ) (p : Form × ℕ) → operator_front text ≡ Some p → IsSound text p
+operator_sound : (text : List ℕ) (p : PieceForm × ℕ) → operator_front text ≡ Some p → IsSound text p
 unfolding operator_front
 operator_sound text p e = operator_by_sound text (first_of by_front text) p refl e
 
@@ -64,14 +64,14 @@ front_is quote bytes body after len e l =
       omega arith,
     )
 
-quoted_sound : (f : Form) (quote : ℕ) (bytes : List ℕ) (o : Option ℕ) (p : Form × ℕ) → quote_close quote false 0 bytes ≡ o → ((body : List ℕ) → is_inside quote false body ≡ true → HasForm f (quote ∷ (body ++ quote ∷ []))) → quoted_by f o ≡ Some p → IsSound (quote ∷ bytes) p
+quoted_sound : (f : PieceForm) (quote : ℕ) (bytes : List ℕ) (o : Option ℕ) (p : PieceForm × ℕ) → quote_close quote false 0 bytes ≡ o → ((body : List ℕ) → is_inside quote false body ≡ true → HasForm f (quote ∷ (body ++ quote ∷ []))) → quoted_by f o ≡ Some p → IsSound (quote ∷ bytes) p
 quoted_sound f quote bytes None p o-is has e = absurd cc
 quoted_sound f quote bytes (Some len) p o-is has e =
     let q = quote_sound quote false bytes 0 len o-is in
     let front = front_is quote bytes q.body q.after len q.is q.long in
     subst (IsSound (quote ∷ bytes)) (piece_same (f, 1 + len) p e) (record { has = subst (HasForm f) (sym front.0) (has q.body q.inside); some = omega arith; within = front.1 })
 
-raw_by_sound : (bytes : List ℕ) (o : Option ℕ) (p : Form × ℕ) → raw_close 0 bytes ≡ o → quoted_by form.Raw o ≡ Some p → IsSound (96 ∷ bytes) p
+raw_by_sound : (bytes : List ℕ) (o : Option ℕ) (p : PieceForm × ℕ) → raw_close 0 bytes ≡ o → quoted_by form.Raw o ≡ Some p → IsSound (96 ∷ bytes) p
 raw_by_sound bytes None p o-is e = absurd cc
 raw_by_sound bytes (Some len) p o-is e =
     let r = raw_sound bytes 0 len o-is in
@@ -124,7 +124,7 @@ block_sound bytes = go (comment_close 0 bytes) refl
         let c = close_sound bytes 0 len o-is in
         closed_sound bytes c.more c.after len (list_any is_newline (take len bytes)) c.is c.long c.first refl
 
-slash_sound : (bytes : List ℕ) (p : Form × ℕ) → slash_front bytes ≡ Some p → IsSound (47 ∷ bytes) p
+slash_sound : (bytes : List ℕ) (p : PieceForm × ℕ) → slash_front bytes ≡ Some p → IsSound (47 ∷ bytes) p
 unfolding slash_front
 slash_sound [] p e = operator_sound (47 ∷ []) p e
 slash_sound (c ∷ cs) p e = go (nat_eq c 47) (nat_eq c 42) refl refl e
@@ -147,7 +147,7 @@ space_any b e = go (nat_eq b 32) (nat_eq b 9) (nat_eq b 13) e
     go false false true h = refl
     go false false false h = absurd cc
 
-other_sound : (text : List ℕ) (p : Form × ℕ) → other_front text ≡ Some p → IsSound text p
+other_sound : (text : List ℕ) (p : PieceForm × ℕ) → other_front text ≡ Some p → IsSound text p
 unfolding other_front
 other_sound [] p e = absurd cc
 other_sound (b ∷ bs) p e = go (is_space b) (nat_eq b 10) (nat_eq b 39) (nat_eq b 34) (nat_eq b 96) (nat_eq b 47) refl refl refl refl refl refl e
@@ -166,7 +166,7 @@ other_sound (b ∷ bs) p e = go (is_space b) (nat_eq b 10) (nat_eq b 39) (nat_eq
     go false false false false false true s-is n-is r-is q-is w-is l-is h = at 47 l-is (slash_sound bs p h)
     go false false false false false false s-is n-is r-is q-is w-is l-is h = operator_sound (b ∷ bs) p h
 
-pub sound : (text : List ℕ) (word : ℕ) (p : Form × ℕ) → IsWordLen text word → piece_by word text ≡ Some p → IsSound text p
+pub sound : (text : List ℕ) (word : ℕ) (p : PieceForm × ℕ) → IsWordLen text word → piece_by word text ≡ Some p → IsSound text p
 sound text word p len e = go (nat_lt 0 word) (nat_lt 0 (number_len text)) refl refl e
   where
     go : (a b : Bool) → nat_lt 0 word ≡ a → nat_lt 0 (number_len text) ≡ b → cond a (some_piece (form.Word, word)) (cond b (some_piece (form.Number, number_len text)) (other_front text)) ≡ some_piece p → IsSound text p

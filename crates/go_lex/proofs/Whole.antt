@@ -5,7 +5,7 @@ use Rattle.std.specs.Str.{encode_utf8_all}
 use Rattle.std.specs.Char.{IsScalar}
 use Rattle.std.proofs.lemmas.List.{append-nil, length-append, take-append-drop, length-take}
 use Rattle.std.proofs.lemmas.Str.{encodes-append}
-use Rattle.go_ast.specs.declared.token.Form.{Form}
+use Rattle.go_ast.specs.declared.token.PieceForm.{PieceForm}
 use Rattle.go_ast.specs.declared.token.Token.{Token}
 use Rattle.go_ast.specs.declared.span.Span.{Span}
 use Rattle.std.proofs.lemmas.Bool.{eqb-true}
@@ -26,7 +26,7 @@ use Rattle.go_lex.proofs.First.{divides_characters, first_in_piece, first_at_sto
 
 -- no good piece stands there
 abbrev pub Ends : List ℕ → Type 0
-Ends rest = (f : Form) (bytes more : List ℕ) → rest ≡ bytes ++ more → IsLongest f bytes more → AreCharacters bytes → IsMeant f bytes → ⊥
+Ends rest = (f : PieceForm) (bytes more : List ℕ) → rest ≡ bytes ++ more → IsLongest f bytes more → AreCharacters bytes → IsMeant f bytes → ⊥
 
 -- divisions that end, end alike
 pub same_end : (text rest after : List ℕ) (ps qs : List Piece) → Divides text ps rest → Divides text qs after → Ends rest → Ends after → rest ≡ after
@@ -76,7 +76,7 @@ same_pieces text (p ∷ ps) (q ∷ qs) a b =
     same_cons p q ps qs (sym same.form) (sym same.bytes_same) more
   where
     same_cons : (p q : Piece) (ps qs : List Piece) → p.form ≡ q.form → p.bytes ≡ q.bytes → ps ≡ qs → p ∷ ps ≡ q ∷ qs
-    same_cons p q ps qs f b m = ap (λ (x : Form). record { form = x; bytes = p.bytes } ∷ ps) f ∙ ap (λ (x : List ℕ). record { form = q.form; bytes = x } ∷ ps) b ∙ ap (λ (x : List Piece). q ∷ x) m
+    same_cons p q ps qs f b m = ap (λ (x : PieceForm). record { form = x; bytes = p.bytes } ∷ ps) f ∙ ap (λ (x : List ℕ). record { form = q.form; bytes = x } ∷ ps) b ∙ ap (λ (x : List Piece). q ∷ x) m
 
 -- a text has at most one token list
 pub one_token_list : (text : List ℕ) (tokens others : List Token) → HasTokens text tokens → HasTokens text others → tokens ≡ others
@@ -159,11 +159,11 @@ one_fault text at other kind other_kind a b = go (a.first other other_kind b.has
 
 -- ---- reading on
 
-divides_more : (text rest more : List ℕ) (pieces : List Piece) (f : Form) (bytes : List ℕ) → Divides text pieces rest → rest ≡ bytes ++ more → IsLongest f bytes more → AreCharacters bytes → IsMeant f bytes → Divides text (pieces ++ record { form = f; bytes = bytes } ∷ []) more
+divides_more : (text rest more : List ℕ) (pieces : List Piece) (f : PieceForm) (bytes : List ℕ) → Divides text pieces rest → rest ≡ bytes ++ more → IsLongest f bytes more → AreCharacters bytes → IsMeant f bytes → Divides text (pieces ++ record { form = f; bytes = bytes } ∷ []) more
 divides_more text rest more [] f bytes d e l are meant = (more, d ∙ e, l, are, meant, refl)
 divides_more text rest more (p ∷ ps) f bytes d e l are meant = (d.0, d.1, d.2, d.3, d.4, divides_more d.0 rest more ps f bytes d.5 e l are meant)
 
-pub read_more : (text rest piece more : List ℕ) (tokens others : List Token) (start end len : ℕ) (needed after : Option ℕ) (f : Form)
+pub read_more : (text rest piece more : List ℕ) (tokens others : List Token) (start end len : ℕ) (needed after : Option ℕ) (f : PieceForm)
     → IsReadTo text tokens rest start needed → IsGoodPiece rest f len → piece ≡ take len rest → more ≡ drop len rest → end ≡ start + len → others ≡ tokens ++ tokens_by f piece start end needed → after ≡ needed_after f piece end needed → IsReadTo text others more end after
 read_more text rest piece more tokens others start end len needed after f read good p-is m-is end-is others-is after-is =
     let whole : rest ≡ piece ++ more = sym (take-append-drop len rest) ∙ ap (λ (x : List ℕ). x ++ drop len rest) (sym p-is) ∙ ap (λ (x : List ℕ). piece ++ x) (sym m-is) in
@@ -193,15 +193,15 @@ pub read_none : (text : List ℕ) → IsReadTo text [] text 0 None
 read_none text = ([], refl, λ more. refl)
 
 -- what is found at the front is good, or the text doesn't go on there
-pub good_piece : (text : List ℕ) (f : Form) (len : ℕ) → IsPieceAt text (Some (f, len)) → AreCharacters (take len text) → IsMeant f (take len text) → IsGoodPiece text f len
+pub good_piece : (text : List ℕ) (f : PieceForm) (len : ℕ) → IsPieceAt text (Some (f, len)) → AreCharacters (take len text) → IsMeant f (take len text) → IsGoodPiece text f len
 good_piece text f len at are meant =
     let s = sound text at.word (f, len) at.word_is (sym at.is) in
     record { longest = longest_at text at.word (f, len) at.word_is (sym at.is); characters = are; meant = meant; some = s.some; within = s.within }
 
-pub has_form_at : (text : List ℕ) (f : Form) (len : ℕ) → IsPieceAt text (Some (f, len)) → HasForm f (take len text)
+pub has_form_at : (text : List ℕ) (f : PieceForm) (len : ℕ) → IsPieceAt text (Some (f, len)) → HasForm f (take len text)
 has_form_at text f len at = (sound text at.word (f, len) at.word_is (sym at.is)).has
 
-pub broken_piece : (text : List ℕ) (f : Form) (len near : ℕ) (kind : LexKind) → IsPieceAt text (Some (f, len)) → IsFaultIn f (take len text) near kind → IsFirstBreak text near kind
+pub broken_piece : (text : List ℕ) (f : PieceForm) (len near : ℕ) (kind : LexKind) → IsPieceAt text (Some (f, len)) → IsFaultIn f (take len text) near kind → IsFirstBreak text near kind
 broken_piece text f len near kind at is =
     first_in_piece f (take len text) (drop len text) text near kind (sym (take-append-drop len text)) (longest_at text at.word (f, len) at.word_is (sym at.is)) is
 
@@ -209,7 +209,7 @@ pub broken_stop : (text : List ℕ) (kind : LexKind) → text ≢ [] → IsPiece
 broken_stop text kind some at is = first_at_stop text kind (none_stuck text at.word some at.word_is (sym at.is)) is
 
 -- the same with a span
-pub read_span : (text rest piece more : List ℕ) (tokens others : List Token) (start len : ℕ) (needed after : Option ℕ) (f : Form) (span : Span)
+pub read_span : (text rest piece more : List ℕ) (tokens others : List Token) (start len : ℕ) (needed after : Option ℕ) (f : PieceForm) (span : Span)
     → IsReadTo text tokens rest start needed → IsGoodPiece rest f len → piece ≡ take len rest → more ≡ drop len rest → span ≡ record { start = start; end = start + len } → others ≡ tokens ++ tokens_by f piece span.start span.end needed
     → after ≡ needed_after f piece span.end needed → IsReadTo text others more (start + len) after
 read_span text rest piece more tokens others start len needed after f span read good p-is m-is s-is others-is after-is =

@@ -2,7 +2,7 @@
 use Rattle.std.specs.Prelude.{◌≡◌, ◌≢◌, ◌⊎◌, ℕ, ◌<◌, ◌≤◌, List, [], ◌∷◌, ◌++◌, length, take, drop, Option, None}
 use Rattle.std.specs.List.{AllByRecursion}
 use Rattle.std.specs.Str.{encode_utf8_all, StartsWithNoChar}
-use Rattle.go_ast.specs.declared.token.Form.{Form}
+use Rattle.go_ast.specs.declared.token.PieceForm.{PieceForm}
 use Rattle.go_ast.specs.declared.token.Token.{Token}
 use Rattle.go_ast.specs.declared.kind.LexKind.{LexKind}
 use Rattle.go_ast.specs.declared.kind.LexKind.TheVariants as fault
@@ -28,7 +28,7 @@ pub record IsUnflawedRune (body : List ℕ) : Type 0 where
   pub meant : AreCharacters (39 ∷ (body ++ 39 ∷ [])) → IsRuneBody body
   pub none : (at : ℕ) (kind : LexKind) → IsRuneFlaw body at kind → ⊥
 
-pub record IsUnflawed (form : Form) (bytes : List ℕ) : Type 0 where
+pub record IsUnflawed (form : PieceForm) (bytes : List ℕ) : Type 0 where
   pub meant : AreCharacters bytes → IsMeant form bytes
   pub none : (at : ℕ) (kind : LexKind) → IsFlaw form bytes at kind → ⊥
 
@@ -37,7 +37,7 @@ abbrev pub IsGoodUpTo : List ℕ → ℕ → Type 0
 IsGoodUpTo bytes at = AreCharacters bytes ⊎ ((later : ℕ) × (kind : LexKind) × IsFirstBad bytes later kind × (at < later))
 
 -- the first fault in a piece: a bad character, before or at any flaw, or a flaw before any bad character
-abbrev pub IsFaultIn : Form → List ℕ → ℕ → LexKind → Type 0
+abbrev pub IsFaultIn : PieceForm → List ℕ → ℕ → LexKind → Type 0
 IsFaultIn form bytes at kind =
     (IsFirstBad bytes at kind × ((flaw : ℕ) (other : LexKind) → IsFlaw form bytes flaw other → at ≤ flaw)) ⊎ (IsFlaw form bytes at kind × IsGoodUpTo bytes at)
 
@@ -47,7 +47,7 @@ IsStopOrBad rest fault.BadUtf8 = StartsWithNoChar rest
 IsStopOrBad rest kind = IsStop rest kind
 
 -- a good piece of this form and length stands at the front
-pub record IsGoodPiece (text : List ℕ) (form : Form) (len : ℕ) : Type 0 where
+pub record IsGoodPiece (text : List ℕ) (form : PieceForm) (len : ℕ) : Type 0 where
   pub longest : IsLongest form (take len text) (drop len text)
   pub characters : AreCharacters (take len text)
   pub meant : IsMeant form (take len text)
@@ -64,7 +64,7 @@ pub record IsFirstBreak (rest : List ℕ) (at : ℕ) (kind : LexKind) : Type 0 w
   pub has : HasBadCharacter rest at kind ⊎ IsBreak rest at kind
   pub before_bad : (other : ℕ) (other_kind : LexKind) → HasBadCharacter rest other other_kind → IsBefore at kind other other_kind
   pub before_break : (other : ℕ) (other_kind : LexKind) → IsBreak rest other other_kind → IsBefore at kind other other_kind
-  pub stops : (form : Form) (bytes more : List ℕ) → rest ≡ bytes ++ more → IsLongest form bytes more → AreCharacters bytes → IsMeant form bytes → ⊥
+  pub stops : (form : PieceForm) (bytes more : List ℕ) → rest ≡ bytes ++ more → IsLongest form bytes more → AreCharacters bytes → IsMeant form bytes → ⊥
 
 -- the tokens so far are those of the pieces so far
 abbrev pub IsReadTo : List ℕ → List Token → List ℕ → ℕ → Option ℕ → Type 0

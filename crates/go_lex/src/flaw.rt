@@ -9,28 +9,32 @@ use crate::character::{bad_character, char_at};
 use crate::escape::{bad_escape, escape_at};
 use crate::number::is_int;
 use crate::quote::inner;
-use go_ast::{Form, LexKind};
+use go_ast::{LexKind, PieceForm};
 
 /// Why a piece isn't meant, and at which offset in it.
-fn flaw(form: Form, piece: &[u8]) -> Option<(usize, LexKind)>
+fn flaw(form: PieceForm, piece: &[u8]) -> Option<(usize, LexKind)>
     requires { HasForm form piece.now }
     ensures { MatchOption result (IsUnflawed form piece.now) (λ p. IsFlaw form piece.now p.0 p.1) }
 {
     match form {
-        Form::Opening => Some((0, LexKind::BadComment)),
-        Form::Number => {
+        PieceForm::Opening => Some((0, LexKind::BadComment)),
+        PieceForm::Number => {
             if is_int(piece) {
                 None
             } else {
                 Some((0, LexKind::BadNumber))
             }
         }
-        Form::Rune => rune_flaw(inner(piece)),
-        Form::Quoted => match bad_escape(inner(piece)) {
+        PieceForm::Rune => rune_flaw(inner(piece)),
+        PieceForm::Quoted => match bad_escape(inner(piece)) {
             Some(at) => Some((at, LexKind::BadEscape)),
             None => None,
         },
-        Form::Blank | Form::Line | Form::Word | Form::Raw | Form::Operator(_) => None,
+        PieceForm::Blank
+        | PieceForm::Line
+        | PieceForm::Word
+        | PieceForm::Raw
+        | PieceForm::Operator(_) => None,
     }
 }
 
@@ -66,7 +70,7 @@ fn character_flaw(body: &[u8]) -> Option<(usize, LexKind)>
 }
 
 /// The first fault in a piece: of two at one offset the bad character.
-pub fn fault_in(form: Form, piece: &[u8]) -> Option<(usize, LexKind)>
+pub fn fault_in(form: PieceForm, piece: &[u8]) -> Option<(usize, LexKind)>
     requires { HasForm form piece.now }
     ensures { MatchOption result (AreCharacters piece.now × IsMeant form piece.now) (λ p. IsFaultIn form piece.now p.0 p.1) }
 {

@@ -8,7 +8,7 @@ use crate::fault::LexFault;
 use crate::flaw::{fault_in, stop_at};
 use crate::piece::piece_at;
 use crate::tokens::{add_piece, end_line};
-use go_ast::{Form, LexKind, Span, Token};
+use go_ast::{LexKind, PieceForm, Span, Token};
 use std::alloc::Global;
 
 /// The tokens of a text, with the semicolons that are inserted where lines end.
@@ -40,7 +40,7 @@ pub fn lex(alloc: Global, text: &[u8]) -> Result<Vec<Token>, LexFault>
 }
 
 /// The piece at the front of a text, and its length; or why the text doesn't go on there, and at which offset from there.
-fn next_piece(text: &[u8]) -> Result<(Form, usize), (usize, LexKind)>
+fn next_piece(text: &[u8]) -> Result<(PieceForm, usize), (usize, LexKind)>
     requires { text.now ≢ [] }
     ensures { MatchResult result (λ p. IsGoodPiece text.now p.0 p.1) (λ e. IsFirstBreak text.now e.0 e.1) }
 {

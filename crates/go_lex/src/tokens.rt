@@ -3,22 +3,22 @@ ghost use Rattle.std.specs.Prelude.{◌≡◌, ◌++◌, Some, None, OnOk, IfOk}
 ghost use Rattle.go_ast.specs.Tokens.{kind_of as kind_by, ends_line as ends, inserted, token_of, tokens_by, needed_behind, needed_after};
 
 use crate::word::word_kind;
-use go_ast::{Form, NoMemory, Span, Token, TokenKind};
+use go_ast::{NoMemory, PieceForm, Span, Token, TokenKind};
 
 /// The place of `;` among the operators.
 const SEMICOLON: u8 = 45;
 
 /// The kind of the token that a piece is, if it is one.
-fn kind_of(form: Form, piece: &[u8]) -> Option<TokenKind>
+fn kind_of(form: PieceForm, piece: &[u8]) -> Option<TokenKind>
     ensures { result ≡ kind_by form piece.now }
 {
     match form {
-        Form::Blank | Form::Line | Form::Opening => None,
-        Form::Word => Some(word_kind(piece)),
-        Form::Number => Some(TokenKind::Int),
-        Form::Rune => Some(TokenKind::Rune),
-        Form::Quoted | Form::Raw => Some(TokenKind::Text),
-        Form::Operator(place) => Some(TokenKind::Operator(place)),
+        PieceForm::Blank | PieceForm::Line | PieceForm::Opening => None,
+        PieceForm::Word => Some(word_kind(piece)),
+        PieceForm::Number => Some(TokenKind::Int),
+        PieceForm::Rune => Some(TokenKind::Rune),
+        PieceForm::Quoted | PieceForm::Raw => Some(TokenKind::Text),
+        PieceForm::Operator(place) => Some(TokenKind::Operator(place)),
     }
 }
 
@@ -51,7 +51,7 @@ pub fn end_line(tokens: &mut Vec<Token>, needed: Option<u32>) -> Result<(), NoMe
 /// Adds the tokens of a piece, and answers where the line needs a semicolon if it ends behind it.
 pub fn add_piece(
     tokens: &mut Vec<Token>,
-    form: Form,
+    form: PieceForm,
     piece: &[u8],
     span: Span,
     needed: Option<u32>,
@@ -59,7 +59,7 @@ pub fn add_piece(
     ensures tokens { OnOk result (tokens.new.items ≡ tokens.old.items ++ tokens_by form piece.now span.start span.end needed) }
     ensures needed { IfOk result (λ after. after ≡ needed_after form piece.now span.end needed) }
 {
-    if let Form::Line = form {
+    if let PieceForm::Line = form {
         end_line(tokens, needed)?;
         return Ok(None);
     }

@@ -1,3 +1,15 @@
-pub mod OneDir
+pub mod Agreeing
+pub mod DecodedModes
+pub mod Dirs
+pub mod Each
+pub mod EntriesFit
+pub mod Gathered
+pub mod Known
+pub mod Measuring
+pub mod Numbered
 pub mod Pieces
+pub mod Puts
+pub mod Received
+pub mod Refusing
+pub mod Tables
 pub mod Told

@@ -1,89 +1,139 @@
 -- What a command makes of its words and a tree of files, or its first refusal.
-use Rattle.std.specs.Prelude.{◌≡◌, ℕ, List, [], ◌∷◌, Result, Ok, Err, Option, Some, None}
+use Rattle.std.specs.Prelude.{ℕ, List, [], ◌∷◌, Result, Ok, Err, Option, Some, None, unwrap_or, take, drop}
+use Rattle.std.specs.List.{flat_map}
 use Rattle.cov_bytes.specs.Many.{◌>>=◌}
-use Rattle.cov_outside.specs.Tree.{Tree, names_in}
+use Rattle.cov_outside.specs.Tree.{Tree}
+use Rattle.cov_outside.specs.declared.stamp.Stamp.{Stamp}
 use Rattle.cov_pods.specs.declared.pod.Pod.{Pod}
-use Rattle.cov_pods.specs.declared.fault.PodFault.{PodFault}
+use Rattle.cov_pods.specs.declared.pod.DirNames.{DirNames}
+use Rattle.cov_pods.specs.CountedPod.{CountedPod}
 use Rattle.cov_pods.specs.Pods.{pods_of}
-use Rattle.cov_pods.specs.Decoding.{decoded}
-use Rattle.cov_table.specs.Coverage.{empty, with_pod}
+use Rattle.cov_table.specs.Coverage.{Coverage, empty}
+use Rattle.cov_table.specs.PodOf.{pod_of}
+use Rattle.cov_report.specs.Dump.{dump_of}
+use Rattle.cov_report.specs.FunctionLines.{func_text_of}
+use Rattle.cov_report.specs.Packages.{package_list_of}
+use Rattle.cov_report.specs.Shares.{percent_of}
 use Rattle.cov_report.specs.TextProfile.{text_profile_of}
 use Rattle.gocov_words.specs.DataRequest.{DataRequest}
 use Rattle.gocov_words.specs.Words.{meaning}
 use Rattle.gocov_words.specs.declared.command.Command.{Command}
-use Rattle.gocov_words.specs.declared.command.Command.TheVariants.{Covdata}
+use Rattle.gocov_words.specs.declared.command.Command.TheVariants.{Cover, Run, Covdata}
+use Rattle.gocov_words.specs.declared.sub.Sub.{Sub}
+use Rattle.gocov_words.specs.declared.sub.Sub.TheVariants as subs
 use Rattle.gocov_words.specs.declared.fault.WordsFault.{WordsFault}
 use Rattle.gocov_words.specs.declared.fault.WordsFault.TheVariants as words_fault
-use Rattle.gocov_tools.specs.Profile.{only_dir, only_pod}
-use Rattle.gocov_tools.specs.Refusals.{of_pod}
+use Rattle.gocov_tools.specs.Combine.{operated, files_in}
+use Rattle.gocov_tools.specs.Files.{merged_files}
+use Rattle.gocov_tools.specs.Listing.{listing}
+use Rattle.gocov_tools.specs.Reading.{nothing_read, pods_in, with_pods}
+use Rattle.gocov_tools.specs.declared.operation.Operation.{Operation}
+use Rattle.gocov_tools.specs.declared.operation.Operation.TheVariants as operations
+use Rattle.gocov_tools.specs.declared.report.Report.{Report}
+use Rattle.gocov_tools.specs.declared.report.Report.TheVariants as reports
+use Rattle.gocov_tools.specs.declared.reading.Reading.{Reading}
+use Rattle.gocov_tools.specs.declared.work.Work.{Work}
 use Rattle.gocov_tools.specs.declared.refusal.Refusal.{Refusal}
 use Rattle.gocov_tools.specs.declared.refusal.Refusal.TheVariants as refusals
 
--- what is there, or nothing is built for it
-abbrev pub built : {A : Type 0} → Option A → Result A Refusal
-built None = Err refusals.NotBuilt
-built (Some x) = Ok x
+-- a text that goes to a path, or to the sink where there is no path
+abbrev pub text_to : Option (List ℕ) → List ℕ → Work
+text_to None text = record { text = text; puts = [] }
+text_to (Some path) text = record { text = []; puts = (path, text) ∷ [] }
 
-abbrev pub from_pod : {A : Type 0} → Result A PodFault → Result A Refusal
-from_pod (Ok x) = Ok x
-from_pod (Err f) = Err (of_pod f)
+-- the table of pods that are read in order
+unfoldable pub table_from : Tree → List Pod → Reading → Result (Coverage × Reading) Refusal
+table_from t pods reading = do
+  read ← pods_in t pods reading
+  Ok (with_pods empty read.0, read.1)
 
--- the text profile of a pod, with the packages that patterns keep
-unfoldable pub profile_of_pod : List (List ℕ) → Pod → Tree → Result (List ℕ) Refusal
-profile_of_pod patterns pod t = do
-  read ← from_pod (decoded t pod None)
-  Ok (text_profile_of (with_pod empty read) patterns)
+-- the table of all pods of directories
+unfoldable pub table_in : Tree → List (List ℕ) → Result Coverage Refusal
+table_in t dirs = do
+  names ← listing t dirs
+  table ← table_from t (pods_of names) nothing_read
+  Ok table.0
 
--- the text profile of a directory: of its one pod
-unfoldable pub profile : List (List ℕ) → List ℕ → Tree → Result (List ℕ) Refusal
-profile patterns dir t = do
-  pod ← built (only_pod (pods_of (record { dir = dir; names = names_in dir t } ∷ [])))
-  profile_of_pod patterns pod t
+-- all pods of directories
+unfoldable pub all_pods : Tree → List (List ℕ) → Result (List CountedPod) Refusal
+all_pods t dirs = do
+  names ← listing t dirs
+  read ← pods_in t (pods_of names) nothing_read
+  Ok read.0
 
--- a path, and the text profile of a directory, with the packages that patterns keep
-unfoldable pub put_profile_of : List (List ℕ) → List ℕ → List ℕ → Tree → Result (List ℕ × List ℕ) Refusal
-put_profile_of patterns path dir t = do
-  text ← profile patterns dir t
-  Ok (path, text)
+-- ---- the commands
 
--- the path that a command of covdata puts, and its bytes
-unfoldable pub put_of : DataRequest → Tree → Result (List ℕ × List ℕ) Refusal
-put_of request t = do
-  path ← built request.out
-  dir ← built (only_dir request.dirs)
-  put_profile_of request.pkg path dir t
+-- the report of a table, with the packages that patterns keep
+abbrev pub report_of : Report → Coverage → List (List ℕ) → List ℕ
+report_of reports.Textfmt table patterns = text_profile_of table patterns
+report_of reports.Percent table patterns = percent_of table patterns
+report_of reports.Func table patterns = func_text_of table patterns
+report_of reports.Pkglist table patterns = package_list_of table patterns
 
--- what is asked of covdata
+-- the report of the table of all pods
+unfoldable pub reported : Report → DataRequest → Tree → Result Work Refusal
+reported report request t = do
+  table ← table_in t request.dirs
+  Ok (text_to request.out (report_of report table request.pkg))
+
+-- all that pods say
+unfoldable pub dumped : DataRequest → Tree → Result Work Refusal
+dumped request t = do
+  pods ← all_pods t request.dirs
+  Ok (text_to request.out (dump_of pods request.pkg))
+
+-- each pod's meta file as it is, and one counter file with its counts
+unfoldable pub merged : Stamp → DataRequest → Tree → Result Work Refusal
+merged stamp request t = do
+  pods ← all_pods t request.dirs
+  Ok (record { text = []; puts = flat_map (merged_files (unwrap_or request.out []) stamp) pods })
+
+-- the tables of two directories, of which the pods of the first are read first
+unfoldable pub two_tables : Tree → List DirNames → Result (Coverage × Coverage) Refusal
+two_tables t names = do
+  first ← table_from t (pods_of (take 1 names)) nothing_read
+  second ← table_from t (pods_of (drop 1 names)) first.1
+  Ok (first.0, second.0)
+
+-- the table of the first directory, once the counts of the second were taken into account
+unfoldable pub combined_table : Operation → Tree → List DirNames → Result Coverage Refusal
+combined_table operation t names = do
+  tables ← two_tables t names
+  Ok (operated operation tables.0 tables.1)
+
+-- one pod with the units of the first of two directories, or no file where its table is empty
+unfoldable pub combined : Operation → Stamp → DataRequest → Tree → Result Work Refusal
+combined operation stamp request t = do
+  names ← listing t request.dirs
+  table ← combined_table operation t names
+  puts ← files_in (unwrap_or request.out []) stamp (pod_of table)
+  Ok (record { text = []; puts = puts })
+
+-- what a command of covdata writes, with a stamp for counter files
+abbrev pub work_for : Sub → Stamp → DataRequest → Tree → Result Work Refusal
+work_for subs.Textfmt stamp request t = reported reports.Textfmt request t
+work_for subs.Percent stamp request t = reported reports.Percent request t
+work_for subs.Func stamp request t = reported reports.Func request t
+work_for subs.Pkglist stamp request t = reported reports.Pkglist request t
+work_for subs.Merge stamp request t = merged stamp request t
+work_for subs.Subtract stamp request t = combined operations.Subtract stamp request t
+work_for subs.Intersect stamp request t = combined operations.Intersect stamp request t
+work_for subs.Debugdump stamp request t = dumped request t
+
+abbrev pub work_of : Stamp → DataRequest → Tree → Result Work Refusal
+work_of stamp request t = work_for request.sub stamp request t
+
+-- what is asked of covdata; the other commands aren't built yet
 abbrev pub asked : Result Command WordsFault → Result DataRequest Refusal
+asked (Ok (Cover request)) = Err refusals.NotBuilt
+asked (Ok (Run request)) = Err refusals.NotBuilt
 asked (Ok (Covdata request)) = Ok request
-asked (Err words_fault.NotBuilt) = Err refusals.NotBuilt
+asked (Err (words_fault.Usage i)) = Err (refusals.Usage i)
+asked (Err (words_fault.Limit w)) = Err (refusals.Limit w)
 asked (Err words_fault.NoMemory) = Err refusals.NoMemory
 
--- the path that a list of words puts, and its bytes
-unfoldable pub command : List (List ℕ) → Tree → Result (List ℕ × List ℕ) Refusal
-command words t = do
+-- what a list of words writes
+unfoldable pub command : Stamp → List (List ℕ) → Tree → Result Work Refusal
+command stamp words t = do
   request ← asked (meaning words)
-  put_of request t
-
--- the refusal that a call answers is the one that is there, unless a read failed or memory ran out
-abbrev pub Refuses : {Y : Type 0} → Refusal → Result Y Refusal → Type 0
-Refuses refusals.NotBuilt there = there ≡ Err refusals.NotBuilt
-Refuses (refusals.Missing path) there = there ≡ Err (refusals.Missing path)
-Refuses (refusals.Data path offset kind) there = there ≡ Err (refusals.Data path offset kind)
-Refuses (refusals.Limit w) there = there ≡ Err (refusals.Limit w)
-Refuses refusals.Read there = Unit {0}
-Refuses refusals.NoMemory there = Unit {0}
-
--- a call gave what is there, or its refusal
-abbrev pub Gives : {X Y : Type 0} → (X → Y) → Result X Refusal → Result Y Refusal → Type 0
-Gives view (Ok x) there = there ≡ Ok (view x)
-Gives view (Err e) there = Refuses e there
-
--- a refusal that the files don't decide
-abbrev pub IsFaultOrMemory : Refusal → Type 0
-IsFaultOrMemory refusals.NotBuilt = ⊥
-IsFaultOrMemory (refusals.Missing path) = ⊥
-IsFaultOrMemory (refusals.Data path offset kind) = ⊥
-IsFaultOrMemory (refusals.Limit w) = ⊥
-IsFaultOrMemory refusals.Read = Unit {0}
-IsFaultOrMemory refusals.NoMemory = Unit {0}
+  work_of stamp request t

@@ -1,6 +1,12 @@
+pub mod Combine
 pub mod Command
+pub mod Files
 pub mod Line
+pub mod Listing
+pub mod Measure
+pub mod Modes
+pub mod Outcome
 pub mod Outside
-pub mod Profile
+pub mod Reading
 pub mod Refusals
-pub mod Status
+pub mod Texts

@@ -1,52 +1,97 @@
 -- What a command does to the objects of the outside, whatever it answers.
 use Rattle.std.specs.Prelude.{◌≡◌, ◌⊎◌, Option, Result, Ok, Err}
 use Rattle.cov_outside.specs.Faults.{Count, Rose}
-use Rattle.cov_outside.specs.Tree.{Tree}
+use Rattle.gocov_words.specs.declared.command.Command.{Command}
+use Rattle.gocov_words.specs.declared.command.Command.TheVariants.{Cover, Run, Covdata}
+use Rattle.gocov_words.specs.declared.fault.WordsFault.{WordsFault}
+use Rattle.gocov_words.specs.declared.fault.WordsFault.TheVariants as words_fault
 use Rattle.gocov_tools.specs.declared.refusal.Refusal.{Refusal}
 use Rattle.gocov_tools.specs.declared.refusal.Refusal.TheVariants as refusals
 use Rattle.gocov_tools.specs.declared.status.Status.{Status}
 use Rattle.gocov_tools.specs.declared.status.Status.TheVariants as statuses
 
--- the count of reads rose where a read failed, and is as before at every other answer
+-- The count of reads rose where a read failed, and is as before at every other answer. What is wrong with words isn't among
+-- the answers.
 abbrev pub CountsRead : {X : Type 0} → Count → Count → Result X Refusal → Type 0
 CountsRead before now (Ok x) = now ≡ before
-CountsRead before now (Err refusals.NotBuilt) = now ≡ before
+CountsRead before now (Err refusals.NotBuilt) = ⊥
+CountsRead before now (Err (refusals.Usage i)) = ⊥
 CountsRead before now (Err (refusals.Missing path)) = now ≡ before
 CountsRead before now (Err (refusals.Data path offset kind)) = now ≡ before
+CountsRead before now (Err (refusals.ModeClash a b c d)) = now ≡ before
 CountsRead before now (Err (refusals.Limit w)) = now ≡ before
 CountsRead before now (Err refusals.Read) = Rose before now
 CountsRead before now (Err refusals.NoMemory) = now ≡ before
 
--- A read fault comes only where the count of reads rose, a write fault only where that of puts did; where neither is
--- answered both are as before.
-abbrev pub Causes : Status → Count → Count → Count → Count → Type 0
-Causes (statuses.Done n) reads reads' puts puts' = (reads' ≡ reads) × (puts' ≡ puts)
-Causes statuses.NotBuilt reads reads' puts puts' = (reads' ≡ reads) × (puts' ≡ puts)
-Causes (statuses.Missing path) reads reads' puts puts' = (reads' ≡ reads) × (puts' ≡ puts)
-Causes (statuses.Data path offset kind) reads reads' puts puts' = (reads' ≡ reads) × (puts' ≡ puts)
-Causes (statuses.InputLimit w) reads reads' puts puts' = (reads' ≡ reads) × (puts' ≡ puts)
-Causes statuses.ReadFault reads reads' puts puts' = Rose reads reads' × (puts' ≡ puts)
-Causes statuses.WriteFault reads reads' puts puts' = (reads' ≡ reads) × Rose puts puts'
-Causes statuses.NoMemory reads reads' puts puts' = (reads' ≡ reads) × (puts' ≡ puts)
+-- A read fault comes only where the count of reads rose, a write fault only where that of puts or of the sink did; each other
+-- count is as before.
+abbrev pub Causes : Status → Count → Count → Count → Count → Count → Count → Type 0
+Causes (statuses.Done n) reads reads' puts puts' outs outs' = (reads' ≡ reads) × (puts' ≡ puts) × (outs' ≡ outs)
+Causes statuses.NotBuilt reads reads' puts puts' outs outs' = (reads' ≡ reads) × (puts' ≡ puts) × (outs' ≡ outs)
+Causes (statuses.Usage i) reads reads' puts puts' outs outs' = (reads' ≡ reads) × (puts' ≡ puts) × (outs' ≡ outs)
+Causes (statuses.Missing path) reads reads' puts puts' outs outs' = (reads' ≡ reads) × (puts' ≡ puts) × (outs' ≡ outs)
+Causes (statuses.Data path offset kind) reads reads' puts puts' outs outs' = (reads' ≡ reads) × (puts' ≡ puts) × (outs' ≡ outs)
+Causes (statuses.ModeClash a b c d) reads reads' puts puts' outs outs' = (reads' ≡ reads) × (puts' ≡ puts) × (outs' ≡ outs)
+Causes (statuses.InputLimit w) reads reads' puts puts' outs outs' = (reads' ≡ reads) × (puts' ≡ puts) × (outs' ≡ outs)
+Causes statuses.ReadFault reads reads' puts puts' outs outs' = Rose reads reads' × (puts' ≡ puts) × (outs' ≡ outs)
+Causes statuses.WriteFault reads reads' puts puts' outs outs' = (reads' ≡ reads) × ((Rose puts puts' × (outs' ≡ outs)) ⊎ ((puts' ≡ puts) × Rose outs outs'))
+Causes statuses.NoMemory reads reads' puts puts' outs outs' = (reads' ≡ reads) × (puts' ≡ puts) × (outs' ≡ outs)
 
--- after a refusal the tree is as before
-abbrev pub KeepsTree : Status → Option Tree → Option Tree → Type 0
-KeepsTree (statuses.Done n) old new = Unit {0}
-KeepsTree statuses.NotBuilt old new = new ≡ old
-KeepsTree (statuses.Missing path) old new = new ≡ old
-KeepsTree (statuses.Data path offset kind) old new = new ≡ old
-KeepsTree (statuses.InputLimit w) old new = new ≡ old
-KeepsTree statuses.ReadFault old new = new ≡ old
-KeepsTree statuses.WriteFault old new = Unit {0}
-KeepsTree statuses.NoMemory old new = Unit {0}
+-- an answer that words alone don't decide
+abbrev pub IsOfData : Status → Type 0
+IsOfData (statuses.Done n) = Unit {0}
+IsOfData statuses.NotBuilt = ⊥
+IsOfData (statuses.Usage i) = ⊥
+IsOfData (statuses.Missing path) = Unit {0}
+IsOfData (statuses.Data path offset kind) = Unit {0}
+IsOfData (statuses.ModeClash a b c d) = Unit {0}
+IsOfData (statuses.InputLimit w) = Unit {0}
+IsOfData statuses.ReadFault = Unit {0}
+IsOfData statuses.WriteFault = Unit {0}
+IsOfData statuses.NoMemory = Unit {0}
 
--- The same for the top call, whose write fault may also come from writing the line of an answer.
-abbrev pub TopCauses : Status → Count → Count → Count → Count → Count → Count → Type 0
-TopCauses (statuses.Done n) reads reads' puts puts' errs errs' = (reads' ≡ reads) × (puts' ≡ puts) × (errs' ≡ errs)
-TopCauses statuses.NotBuilt reads reads' puts puts' errs errs' = (reads' ≡ reads) × (puts' ≡ puts) × (errs' ≡ errs)
-TopCauses (statuses.Missing path) reads reads' puts puts' errs errs' = (reads' ≡ reads) × (puts' ≡ puts) × (errs' ≡ errs)
-TopCauses (statuses.Data path offset kind) reads reads' puts puts' errs errs' = (reads' ≡ reads) × (puts' ≡ puts) × (errs' ≡ errs)
-TopCauses (statuses.InputLimit w) reads reads' puts puts' errs errs' = (reads' ≡ reads) × (puts' ≡ puts) × (errs' ≡ errs)
-TopCauses statuses.ReadFault reads reads' puts puts' errs errs' = Rose reads reads' × (puts' ≡ puts) × (errs' ≡ errs)
-TopCauses statuses.WriteFault reads reads' puts puts' errs errs' = Rose puts puts' ⊎ Rose errs errs'
-TopCauses statuses.NoMemory reads reads' puts puts' errs errs' = Unit {0}
+-- a command that isn't built yet
+abbrev pub IsUnbuilt : Result Command WordsFault → Type 0
+IsUnbuilt (Ok (Cover request)) = Unit {0}
+IsUnbuilt (Ok (Run request)) = Unit {0}
+IsUnbuilt (Ok (Covdata request)) = ⊥
+IsUnbuilt (Err e) = ⊥
+
+-- what is wrong with words is answered only where they mean it, whatever the objects of the outside are
+abbrev pub IsOfWords : Status → Result Command WordsFault → Type 0
+IsOfWords (statuses.Done n) there = Unit {0}
+IsOfWords statuses.NotBuilt there = IsUnbuilt there
+IsOfWords (statuses.Usage i) there = there ≡ Err (words_fault.Usage i)
+IsOfWords (statuses.Missing path) there = Unit {0}
+IsOfWords (statuses.Data path offset kind) there = Unit {0}
+IsOfWords (statuses.ModeClash a b c d) there = Unit {0}
+IsOfWords (statuses.InputLimit w) there = Unit {0}
+IsOfWords statuses.ReadFault there = Unit {0}
+IsOfWords statuses.WriteFault there = Unit {0}
+IsOfWords statuses.NoMemory there = Unit {0}
+
+-- what an object tells is as before after a refusal and after a read fault
+abbrev pub Keeps : {A : Type 0} → Status → A → A → Type 0
+Keeps (statuses.Done n) old new = Unit {0}
+Keeps statuses.NotBuilt old new = new ≡ old
+Keeps (statuses.Usage i) old new = new ≡ old
+Keeps (statuses.Missing path) old new = new ≡ old
+Keeps (statuses.Data path offset kind) old new = new ≡ old
+Keeps (statuses.ModeClash a b c d) old new = new ≡ old
+Keeps (statuses.InputLimit w) old new = new ≡ old
+Keeps statuses.ReadFault old new = new ≡ old
+Keeps statuses.WriteFault old new = Unit {0}
+Keeps statuses.NoMemory old new = Unit {0}
+
+-- The same causes for the top call, whose write fault may also come from writing the line of an answer.
+abbrev pub TopCauses : Status → Count → Count → Count → Count → Count → Count → Count → Count → Type 0
+TopCauses (statuses.Done n) reads reads' puts puts' outs outs' errs errs' = (reads' ≡ reads) × (puts' ≡ puts) × (outs' ≡ outs) × (errs' ≡ errs)
+TopCauses statuses.NotBuilt reads reads' puts puts' outs outs' errs errs' = (reads' ≡ reads) × (puts' ≡ puts) × (outs' ≡ outs) × (errs' ≡ errs)
+TopCauses (statuses.Usage i) reads reads' puts puts' outs outs' errs errs' = (reads' ≡ reads) × (puts' ≡ puts) × (outs' ≡ outs) × (errs' ≡ errs)
+TopCauses (statuses.Missing path) reads reads' puts puts' outs outs' errs errs' = (reads' ≡ reads) × (puts' ≡ puts) × (outs' ≡ outs) × (errs' ≡ errs)
+TopCauses (statuses.Data path offset kind) reads reads' puts puts' outs outs' errs errs' = (reads' ≡ reads) × (puts' ≡ puts) × (outs' ≡ outs) × (errs' ≡ errs)
+TopCauses (statuses.ModeClash a b c d) reads reads' puts puts' outs outs' errs errs' = (reads' ≡ reads) × (puts' ≡ puts) × (outs' ≡ outs) × (errs' ≡ errs)
+TopCauses (statuses.InputLimit w) reads reads' puts puts' outs outs' errs errs' = (reads' ≡ reads) × (puts' ≡ puts) × (outs' ≡ outs) × (errs' ≡ errs)
+TopCauses statuses.ReadFault reads reads' puts puts' outs outs' errs errs' = Rose reads reads' × (puts' ≡ puts) × (outs' ≡ outs) × (errs' ≡ errs)
+TopCauses statuses.WriteFault reads reads' puts puts' outs outs' errs errs' = Rose puts puts' ⊎ (Rose outs outs' ⊎ Rose errs errs')
+TopCauses statuses.NoMemory reads reads' puts puts' outs outs' errs errs' = Unit {0}

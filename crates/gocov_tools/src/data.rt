@@ -1,105 +1,77 @@
 //! `covdata`.
-ghost use Rattle.std.specs.Prelude.{◌≡◌, All, IfSome, Ok};
-ghost use Rattle.std.specs.Option.{option_copied};
+ghost use Rattle.std.specs.Prelude.{◌≡◌, IfSome};
 ghost use Rattle.std.specs.Str.{IsUtf8};
-ghost use Rattle.gocov_tools.specs.Command.{put_of, put_profile_of};
-ghost use Rattle.gocov_tools.specs.Outside.{Causes, KeepsTree};
-ghost use Rattle.gocov_tools.specs.Status.{Leaves};
-ghost use Rattle.gocov_tools.specs.Profile as spec;
-ghost use Rattle.gocov_tools.specs.Refusals.{answer_of};
+ghost use Rattle.gocov_tools.specs.Command as spec;
+ghost use Rattle.gocov_tools.specs.Refusals.{Gives};
+ghost use Rattle.gocov_tools.specs.Outcome.{Leaves, Receives};
+ghost use Rattle.gocov_tools.specs.Outside.{Causes, CountsRead, IsOfData, Keeps};
 
-use crate::profile::profile_of;
-use crate::refusal::Refusal;
+use crate::combine::combine_work;
+use crate::dump::dump_work;
+use crate::merge::merge_work;
+use crate::operation::Operation;
+use crate::perform::perform;
+use crate::refusal::{Refusal, status_of};
+use crate::report::{Report, report_work};
 use crate::status::Status;
-use cov_outside::{Files, FilesFault, Sink, Stamp, Text};
-use cov_pods::copy_texts;
-use cov_report::Filter;
-use gocov_words::DataArgs;
-use std::alloc::{AllocError, Global};
+use crate::work::Work;
+use cov_outside::{Files, Sink, Stamp, Text};
+use gocov_words::{DataArgs, Sub};
+use std::alloc::Global;
 
-fn status_of(refusal: Refusal) -> Status
-    ensures { result ≡ answer_of refusal }
-{
-    match refusal {
-        Refusal::NotBuilt => Status::NotBuilt,
-        Refusal::Missing { path } => Status::Missing { path },
-        Refusal::Data { path, offset, kind } => Status::Data { path, offset, kind },
-        Refusal::Limit(which) => Status::InputLimit(which),
-        Refusal::Read => Status::ReadFault,
-        Refusal::NoMemory => Status::NoMemory,
-    }
-}
-
-/// Puts a file, the last thing that a command does.
-fn put_last<F: Files>(files: &mut F, path: &Text, bytes: &[u8]) -> Status
-    requires { IsUtf8 path.now }
-    ensures told { IfSome (F.tree files.old) (λ t. Leaves result (Ok (path.now, bytes.now)) t (F.tree files.new)) }
-    ensures causes { Causes result (F.read_faults files.old) (F.read_faults files.new) (F.put_faults files.old) (F.put_faults files.new) }
-    ensures kept { KeepsTree result (F.tree files.old) (F.tree files.new) }
-{
-    match files.put(path.as_str(), bytes) {
-        Ok(()) => Status::Done(0),
-        Err(FilesFault::Failed) => Status::WriteFault,
-        Err(FilesFault::NoMemory) => Status::NoMemory,
-    }
-}
-
-/// The directory, where there is exactly one.
-fn only_dir(dirs: &[Text]) -> Option<&Text>
-    requires { All IsUtf8 dirs.now }
-    ensures only { option_copied result ≡ spec.only_dir dirs.now }
-    ensures utf8 { IfSome result (λ dir. IsUtf8 dir.now) }
-{
-    match dirs {
-        [dir] => Some(dir),
-        _ => None,
-    }
-}
-
-/// Puts the text profile of a directory, with the packages that the filter keeps.
-#[tactic(auto, unfolding(crate::specs::Command::put_profile_of))]
-fn put_profile<F: Files>(
+/// What a command of `covdata` writes.
+fn work_of<F: Files>(
     alloc: Global,
+    args: &DataArgs,
     files: &mut F,
-    dir: &Text,
-    path: &Text,
-    filter: &Filter,
-) -> Status
-    requires dir { IsUtf8 dir.now }
-    requires path { IsUtf8 path.now }
-    ensures told { IfSome (F.tree files.old) (λ t. Leaves result (put_profile_of filter.now.patterns path.now dir.now t) t (F.tree files.new)) }
-    ensures causes { Causes result (F.read_faults files.old) (F.read_faults files.new) (F.put_faults files.old) (F.put_faults files.new) }
-    ensures kept { KeepsTree result (F.tree files.old) (F.tree files.new) }
+    stamp: Stamp,
+) -> Result<Work, Refusal>
+    ensures told { IfSome (F.tree files.old) (λ t. Gives (λ work. work) result (spec.work_of stamp args.now t)) }
+    ensures same { F.tree files.new ≡ F.tree files.old }
+    ensures cause { CountsRead (F.read_faults files.old) (F.read_faults files.new) result }
+    ensures puts { F.put_faults files.new ≡ F.put_faults files.old }
 {
-    match profile_of(alloc, files, dir, filter) {
-        Ok(text) => put_last(files, path, &text),
-        Err(refusal) => status_of(refusal),
+    match args.sub {
+        Sub::Textfmt => report_work(alloc, Report::Textfmt, args, files),
+        Sub::Percent => report_work(alloc, Report::Percent, args, files),
+        Sub::Pkglist => report_work(alloc, Report::Pkglist, args, files),
+        Sub::Merge => merge_work(alloc, args, files, stamp),
+        Sub::Subtract => combine_work(alloc, Operation::Subtract, args, files, stamp),
+        Sub::Intersect => combine_work(alloc, Operation::Intersect, args, files, stamp),
+        Sub::Func => report_work(alloc, Report::Func, args, files),
+        Sub::Debugdump => dump_work(alloc, args, files),
+    }
+}
+
+/// The directory that a command puts pods in.
+fn pod_dir(args: &DataArgs) -> Option<&Text>
+    ensures { IfSome result (λ dir. IsUtf8 dir.now) }
+{
+    match args.sub {
+        Sub::Merge | Sub::Subtract | Sub::Intersect => args.out.as_ref(),
+        Sub::Textfmt | Sub::Percent | Sub::Func | Sub::Pkglist | Sub::Debugdump => None,
     }
 }
 
 /// Does what a command of `covdata` says with the pods of its directories.
-#[tactic(auto, unfolding(crate::specs::Command::put_of))]
+///
+/// All pods are decoded before anything is written. The text goes to `out`; files are put in order.
 pub fn covdata<F: Files, O: Sink>(
     alloc: Global,
     args: &DataArgs,
     files: &mut F,
     out: &mut O,
-    _stamp: Stamp,
+    stamp: Stamp,
 ) -> Status
-    ensures told { IfSome (F.tree files.old) (λ t. Leaves result (put_of args.now t) t (F.tree files.new)) }
-    ensures causes { Causes result (F.read_faults files.old) (F.read_faults files.new) (F.put_faults files.old) (F.put_faults files.new) }
-    ensures kept { KeepsTree result (F.tree files.old) (F.tree files.new) }
-    ensures out { O.contents out.new ≡ O.contents out.old }
-    ensures outs { O.faults out.new ≡ O.faults out.old }
+    ensures told { IfSome (F.tree files.old) (λ t. Leaves result (spec.work_of stamp args.now t) t (F.tree files.new) (F.put_faults files.old) (F.put_faults files.new) (O.faults out.old) (O.faults out.new)) }
+    ensures received { IfSome (F.tree files.old) (λ t. Receives result (spec.work_of stamp args.now t) (O.contents out.old) (O.contents out.new)) }
+    ensures causes { Causes result (F.read_faults files.old) (F.read_faults files.new) (F.put_faults files.old) (F.put_faults files.new) (O.faults out.old) (O.faults out.new) }
+    ensures of_data { IsOfData result }
+    ensures kept { Keeps result (F.tree files.old) (F.tree files.new) }
+    ensures kept_out { Keeps result (O.contents out.old) (O.contents out.new) }
 {
-    let Some(path) = &args.out else {
-        return Status::NotBuilt;
-    };
-    let Some(dir) = only_dir(args.dirs.as_slice()) else {
-        return Status::NotBuilt;
-    };
-    match copy_texts(alloc, args.pkg.as_slice()) {
-        Ok(patterns) => put_profile(alloc, files, dir, path, &Filter { patterns }),
-        Err(AllocError) => Status::NoMemory,
+    match work_of(alloc, args, files, stamp) {
+        Ok(work) => perform(files, out, pod_dir(args), &work),
+        Err(refusal) => status_of(refusal),
     }
 }

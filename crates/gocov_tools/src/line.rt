@@ -3,8 +3,9 @@ ghost use Rattle.std.specs.Prelude.{◌≡◌, OnOk, OnErr, decimal};
 ghost use Rattle.std.specs.List.{flat_map};
 ghost use Rattle.std.specs.Io.KnownBytes.{append_known};
 ghost use Rattle.cov_outside.specs.Faults.{Counts, HasPrefix};
+ghost use Rattle.cov_outside.specs.Mode.{mode_name};
 ghost use Rattle.cov_outside.specs.Limits.{kind_name, limit_name, limit_number};
-ghost use Rattle.gocov_tools.specs.Line.{line_of, data_line, limit_line, Finishes, HasLine, HasPart};
+ghost use Rattle.gocov_tools.specs.Line.{line_of, data_line, limit_line, usage_line, clash_line, Finishes, HasLine, HasPart};
 
 use crate::status::Status;
 use cov_outside::{DataKind, FilesFault, Sink, Text, Which, write_whole};
@@ -77,6 +78,53 @@ fn write_limit<E: Sink>(err: &mut E, which: Which) -> Result<(), FilesFault>
     write_limit_line(err, which.name(), number)
 }
 
+fn write_usage_line<'a, E: Sink>(err: &mut E, index: &'a [u8]) -> Result<(), FilesFault>
+    ensures ok { OnOk result (E.contents err.new ≡ append_known (E.contents err.old) (usage_line index.now)) }
+    ensures err { OnErr result (HasPrefix (E.contents err.old) (E.contents err.new) (usage_line index.now)) }
+    ensures cause { Counts (E.faults err.old) (E.faults err.new) result }
+{
+    write_pieces(err, &[b"gocov: usage: word ", index, b"\n"])
+}
+
+/// Writes which word is wrong.
+fn write_usage<E: Sink>(err: &mut E, word: usize) -> Result<(), FilesFault>
+    ensures ok { OnOk result (E.contents err.new ≡ append_known (E.contents err.old) (usage_line (decimal word))) }
+    ensures err { OnErr result (HasPrefix (E.contents err.old) (E.contents err.new) (usage_line (decimal word))) }
+    ensures cause { Counts (E.faults err.old) (E.faults err.new) result }
+{
+    let mut digits = Buffer::new();
+    let index = digits.format(word).as_bytes();
+    write_usage_line(err, index)
+}
+
+/// Writes which two meta files differ in their modes.
+fn write_clash<'a, E: Sink>(
+    err: &mut E,
+    first: &'a [u8],
+    first_mode: &'a [u8],
+    second: &'a [u8],
+    second_mode: &'a [u8],
+) -> Result<(), FilesFault>
+    ensures ok { OnOk result (E.contents err.new ≡ append_known (E.contents err.old) (clash_line first.now first_mode.now second.now second_mode.now)) }
+    ensures err { OnErr result (HasPrefix (E.contents err.old) (E.contents err.new) (clash_line first.now first_mode.now second.now second_mode.now)) }
+    ensures cause { Counts (E.faults err.old) (E.faults err.new) result }
+{
+    write_pieces(
+        err,
+        &[
+            b"gocov: mode clash: ",
+            first,
+            b" ",
+            first_mode,
+            b", ",
+            second,
+            b" ",
+            second_mode,
+            b"\n",
+        ],
+    )
+}
+
 /// Writes the line of an answer; none for `Done`.
 fn write_line<E: Sink>(err: &mut E, status: &Status) -> Result<(), FilesFault>
     ensures ok { OnOk result (E.contents err.new ≡ append_known (E.contents err.old) (line_of status.now)) }
@@ -86,6 +134,7 @@ fn write_line<E: Sink>(err: &mut E, status: &Status) -> Result<(), FilesFault>
     match status {
         Status::Done(_) => Ok(()),
         Status::NotBuilt => write_pieces(err, &[b"gocov: not built\n".as_slice()]),
+        Status::Usage(word) => write_usage(err, *word),
         Status::Missing { path } => write_pieces(
             err,
             &[
@@ -95,6 +144,18 @@ fn write_line<E: Sink>(err: &mut E, status: &Status) -> Result<(), FilesFault>
             ],
         ),
         Status::Data { path, offset, kind } => write_data(err, path, *offset, kind),
+        Status::ModeClash {
+            first,
+            first_mode,
+            second,
+            second_mode,
+        } => write_clash(
+            err,
+            first.bytes(),
+            first_mode.name(),
+            second.bytes(),
+            second_mode.name(),
+        ),
         Status::InputLimit(which) => write_limit(err, *which),
         Status::ReadFault => write_pieces(err, &[b"gocov: read fault\n".as_slice()]),
         Status::WriteFault => write_pieces(err, &[b"gocov: write fault\n".as_slice()]),

@@ -1,16 +1,17 @@
 //! Why a command did nothing.
 ghost use Rattle.std.specs.Prelude.{◌≡◌};
 ghost use Rattle.gocov_tools.specs.declared.refusal.Refusal.TheVariants as refusal;
+ghost use Rattle.gocov_tools.specs.Refusals.{answer_of};
 
-use cov_outside::{DataKind, FilesFault, Text, Which};
-use cov_pods::PodFault;
-use cov_table::TableRefusal;
+use crate::status::Status;
+use cov_outside::{DataKind, FilesFault, Mode, Text, Which};
 use std::alloc::{AllocError, AllocFailed};
 
 /// The first refusal of a command.
 #[derive(Debug, Drop)]
 pub enum Refusal {
     NotBuilt,
+    Usage(usize),
     Missing {
         path: Text,
     },
@@ -18,6 +19,12 @@ pub enum Refusal {
         path: Text,
         offset: u64,
         kind: DataKind,
+    },
+    ModeClash {
+        first: Text,
+        first_mode: Mode,
+        second: Text,
+        second_mode: Mode,
     },
     Limit(Which),
     Read,
@@ -54,32 +61,28 @@ impl From<FilesFault> for Refusal {
     }
 }
 
-impl From<PodFault> for Refusal {
-    ghost use Rattle.gocov_tools.specs.Refusals.{of_pod};
-
-    ghost from_gives = { λ f e. e ≡ of_pod f };
-
-    fn from(f: PodFault) -> Refusal {
-        match f {
-            PodFault::Data { path, offset, kind } => Refusal::Data { path, offset, kind },
-            PodFault::Mode(_) => Refusal::NotBuilt,
-            PodFault::Limit(which) => Refusal::Limit(which),
-            PodFault::Missing { path } => Refusal::Missing { path },
-            PodFault::Read => Refusal::Read,
-            PodFault::NoMemory => Refusal::NoMemory,
-        }
-    }
-}
-
-impl From<TableRefusal> for Refusal {
-    ghost use Rattle.gocov_tools.specs.Refusals.{of_table};
-
-    ghost from_gives = { λ f e. e ≡ of_table f };
-
-    fn from(f: TableRefusal) -> Refusal {
-        match f {
-            TableRefusal::ModeClash { .. } => Refusal::NotBuilt,
-            TableRefusal::NoMemory => Refusal::NoMemory,
-        }
+/// The answer of a refused command.
+pub fn status_of(refusal: Refusal) -> Status
+    ensures { result ≡ answer_of refusal }
+{
+    match refusal {
+        Refusal::NotBuilt => Status::NotBuilt,
+        Refusal::Usage(word) => Status::Usage(word),
+        Refusal::Missing { path } => Status::Missing { path },
+        Refusal::Data { path, offset, kind } => Status::Data { path, offset, kind },
+        Refusal::ModeClash {
+            first,
+            first_mode,
+            second,
+            second_mode,
+        } => Status::ModeClash {
+            first,
+            first_mode,
+            second,
+            second_mode,
+        },
+        Refusal::Limit(which) => Status::InputLimit(which),
+        Refusal::Read => Status::ReadFault,
+        Refusal::NoMemory => Status::NoMemory,
     }
 }

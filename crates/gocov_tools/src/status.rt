@@ -1,7 +1,7 @@
 //! What a command answers.
 ghost use Rattle.std.specs.Prelude.{◌≡◌};
 
-use cov_outside::{DataKind, Text, Which};
+use cov_outside::{DataKind, Mode, Text, Which};
 
 /// The answer of a command.
 #[derive(Debug, Drop)]
@@ -10,6 +10,8 @@ pub enum Status {
     Done(u8),
     /// What was asked for isn't built yet.
     NotBuilt,
+    /// The word with this index, from 0, is wrong, or one is missing there.
+    Usage(usize),
     /// There is no file at the path.
     Missing {
         path: Text,
@@ -19,6 +21,13 @@ pub enum Status {
         path: Text,
         offset: u64,
         kind: DataKind,
+    },
+    /// The first meta file, and the first one in another mode.
+    ModeClash {
+        first: Text,
+        first_mode: Mode,
+        second: Text,
+        second_mode: Mode,
     },
     /// A counted quantity passes its limit.
     InputLimit(Which),
@@ -36,7 +45,11 @@ impl Status {
     {
         match self {
             Status::Done(code) => *code,
-            Status::Missing { .. } | Status::Data { .. } | Status::InputLimit(_) => 1,
+            Status::Missing { .. }
+            | Status::Data { .. }
+            | Status::ModeClash { .. }
+            | Status::InputLimit(_) => 1,
+            Status::Usage(_) => 2,
             Status::NotBuilt => 3,
             Status::ReadFault | Status::WriteFault => 4,
             Status::NoMemory => 5,

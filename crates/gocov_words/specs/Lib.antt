@@ -1,2 +1,16 @@
+pub mod Asked
+pub mod CoverRequest
+pub mod Data
 pub mod DataRequest
+pub mod Flags
+pub mod Fronts
+pub mod Line
+pub mod Read
+pub mod Rules
+pub mod RunRequest
+pub mod Subs
+pub mod Table
+pub mod Texts
+pub mod Values
+pub mod Word
 pub mod Words

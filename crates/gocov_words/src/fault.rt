@@ -2,13 +2,17 @@
 ghost use Rattle.std.specs.Prelude.{◌≡◌};
 ghost use Rattle.gocov_words.specs.declared.fault.WordsFault.TheVariants as words_fault;
 
+use cov_outside::Which;
 use std::alloc::{AllocError, AllocFailed};
 
 /// Why words name no command.
 #[derive(Clone, Copy, Debug, PartialEq, Eq)]
 pub enum WordsFault {
-    /// They name something that isn't built yet.
-    NotBuilt,
+    /// The index of the word, from 0, that is unknown, has a bad value or is one too many; the number of words where
+    /// something is missing.
+    Usage(usize),
+    /// More than this many directories.
+    Limit(Which),
     NoMemory,
 }
 

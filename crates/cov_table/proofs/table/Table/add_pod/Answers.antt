@@ -4,6 +4,7 @@ use Rattle.cov_table.specs.Coverage.{Coverage, extended, counts_of, package_of}
 use Rattle.cov_table.specs.Refusal.{Agree}
 use Rattle.cov_table.specs.Rows.{coverage_of}
 use Rattle.cov_table.proofs.Tables.{kept_table, kept_coverage, same_table, same_coverage, more_table, more_coverage, on_err}
+use Rattle.cov_table.proofs.Covered.{covered_pod}
 use Rattle.cov_table.proofs.table.Table.add_pod.Goals as goal
 
 pub invariant_of-self : goal.invariant_of-self
@@ -20,7 +21,7 @@ returns-in_err-append-clause-err c =
     on_err _ _ (same_coverage _ _ _ _ _ _ c.in_err-append.ensures.rows_kept c.in_err-append.ensures.packages_kept ∙ kept_coverage _ _ _ _ _ c.gather_pod.ensures.kept c.self-2.invariant ∙ c.self-2.view_is ∙ c.in_ok-settle.ensures)
 
 pub invariant_of-self-2 : goal.invariant_of-self-2
-invariant_of-self-2 c = more_table _ _ _ _ _ _ _ _ _ _ _ _ c.gather_pod.ensures.kept c.self-2.invariant c.in_ok-more.ensures.added c.in_ok-append.ensures.rows c.in_ok-append.ensures.packages
+invariant_of-self-2 c = more_table _ _ _ _ _ _ _ _ _ _ _ _ c.gather_pod.ensures.kept c.self-2.invariant c.in_ok-more.ensures.added (covered_pod c.args.pod.now.file.meta.packages c.args.pod.now.counts) c.in_ok-append.ensures.rows c.in_ok-append.ensures.packages
 
 pub returns-clause-ok : goal.returns-clause-ok
 returns-clause-ok c =

@@ -1,8 +1,10 @@
-use Rattle.std.proofs.Common.{◌≡◌, ◌∙◌, ap, sym, subst, Option, Some, map}
+use Rattle.std.proofs.Common.{◌≡◌, ◌∙◌, ap, sym, subst, Option, Some, List, map}
 use Rattle.cov_outside.specs.declared.mode.Mode.{Mode}
 use Rattle.cov_table.specs.Coverage.{Coverage, extended}
 use Rattle.cov_table.specs.Refusal.{Agree}
-use Rattle.cov_table.specs.Rows.{row_entry, package_entry, coverage_of}
+use Rattle.cov_table.specs.declared.row.Row.{Row}
+use Rattle.cov_table.specs.declared.row.PackageRow.{PackageRow}
+use Rattle.cov_table.specs.Rows.{row_entry, package_entry, coverage_of, IsCovered}
 use Rattle.cov_table.proofs.Tables.{kept_table, kept_coverage, same_table, same_coverage, more_table, more_coverage, merged_rows, on_err}
 use Rattle.cov_table.proofs.table.Table.merge.Goals as goal
 
@@ -20,7 +22,9 @@ returns-in_err-append-clause-err c =
     on_err _ _ (same_coverage _ _ _ _ _ _ c.in_err-append.ensures.rows_kept c.in_err-append.ensures.packages_kept ∙ kept_coverage _ _ _ _ _ c.gather_rows.ensures.kept c.self-2.invariant ∙ c.self-2.view_is ∙ c.in_ok-settle.ensures)
 
 pub invariant_of-self-2 : goal.invariant_of-self-2
-invariant_of-self-2 c = more_table _ _ _ _ _ _ _ _ _ _ _ _ c.gather_rows.ensures.kept c.self-2.invariant c.in_ok-more.ensures.added c.in_ok-append.ensures.rows c.in_ok-append.ensures.packages
+invariant_of-self-2 c = more_table _ _ _ _ _ _ _ _ _ _ _ _ c.gather_rows.ensures.kept c.self-2.invariant c.in_ok-more.ensures.added
+    (subst (λ (rows : List Row). IsCovered (map (row_entry c.other.inside.texts) rows) (map (package_entry c.other.inside.texts) c.deref-2.result.now)) (sym c.deref.ensures.value) (subst (λ (rows : List PackageRow). IsCovered (map (row_entry c.other.inside.texts) c.other.inside.rows.items) (map (package_entry c.other.inside.texts) rows)) (sym c.deref-2.ensures.value) c.other.invariant.covered))
+    c.in_ok-append.ensures.rows c.in_ok-append.ensures.packages
 
 pub returns-clause-ok : goal.returns-clause-ok
 returns-clause-ok c =

@@ -1,0 +1,12 @@
+pub mod Opened
+pub mod Segments
+pub mod Walks
+pub mod Clauses
+pub mod Files
+pub mod Dividing
+pub mod Placed
+pub mod Built
+pub mod Apart
+pub mod Bare
+pub mod Ends
+pub mod Within

@@ -1,0 +1,6 @@
+pub mod Outline
+pub mod Outlining
+pub mod Units
+pub mod Layers
+pub mod Placement
+pub mod Laws

@@ -1,0 +1,5 @@
+use Rattle.cov_erase.proofs.Sums as sums
+use Rattle.cov_erase.proofs.laws.entries_add_up.Goals as goal
+
+pub returns : goal.returns
+returns c = sums.entries_add_up

@@ -1,0 +1,6 @@
+use Rattle.cov_report.specs.Dump.{package_dump}
+use Rattle.cov_report.proofs.NumberedLines.{none_left, numbered_ends}
+use Rattle.cov_report.proofs.dump.push_packages.Goals as goal
+
+pub returns : goal.returns
+returns c = numbered_ends (package_dump c.args.filter.now.patterns) _ _ _ _ _ (none_left c.loop-i.i-iterator.iter.a c.loop-i.i-iterator.iter.b c.in-None.ensures.steps.0) c.loop-i.invariant

@@ -1,0 +1,9 @@
+pub mod Types
+pub mod Kinds
+pub mod Operators
+pub mod Checking
+pub mod Constants
+pub mod Literals
+pub mod Names
+pub mod Operands
+pub mod Expressions

@@ -1,0 +1,14 @@
+pub mod Blocks
+pub mod Decls
+pub mod Exprs
+pub mod Files
+pub mod Lists
+pub mod Simple
+pub mod Sound
+pub mod Spellings
+pub mod Terminals
+pub mod Trees
+pub mod Types
+pub mod Values
+pub mod Verdicts
+pub mod Words

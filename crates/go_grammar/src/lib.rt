@@ -1,0 +1,6 @@
+//! The grammar of the Go subset: which tokens spell which tree, and which token is the first that none can have.
+//!
+//! The definitions stand in `specs`; `go_parse` finds what they say.
+#![tactic(auto)]
+
+pub mod laws;

@@ -1,0 +1,12 @@
+mod Lists
+mod Small
+mod ControlRows
+mod ChannelRows
+mod ValueRows
+mod CounterRows
+mod Shapes
+mod Alike
+mod Standing
+mod Unique
+mod Covering
+mod Fitting

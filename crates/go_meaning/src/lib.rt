@@ -1,0 +1,26 @@
+//! Go programs and what they mean: the types of programs, configurations and events, and in `specs/` the definitions of
+//! steps, histories, ends, entries, counters and the serial schedule.
+#![tactic(auto)]
+
+mod act;
+mod config;
+mod event;
+mod expr;
+mod item;
+pub mod laws;
+mod node;
+mod program;
+mod stack;
+#[cfg(test)]
+mod tests;
+mod value;
+
+pub use act::Act;
+pub use config::{Call, Config, Deferred, Frame, Goroutine};
+pub use event::{End, Event, Ready};
+pub use expr::{Expr, Op, Relation, Target, Variable};
+pub use item::Item;
+pub use node::{Assignment, CaseClause, Comm, CommClause, Deferral, Node, NodeForm, Simple};
+pub use program::{Function, Global, Program, ProgramPackage};
+pub use stack::Stack;
+pub use value::{Channel, Value};

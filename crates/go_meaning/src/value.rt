@@ -1,0 +1,25 @@
+//! Values and channels.
+use go_ast::Text;
+use go_value::Int;
+use sqlite_items::Items;
+
+/// A value.
+#[derive(Debug, Drop)]
+pub enum Value {
+    Flag(bool),
+    Number(Int),
+    Text(Text),
+    /// The number of a channel, from 0, or `nil`.
+    Channel(Option<u32>),
+}
+
+/// A channel.
+#[derive(Debug, Drop)]
+pub struct Channel {
+    pub capacity: u64,
+    /// The zero value of its values' type.
+    pub zero: Value,
+    /// The values that were sent and not yet received, the oldest first.
+    pub values: Items<Value>,
+    pub closed: bool,
+}

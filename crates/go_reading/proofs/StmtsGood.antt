@@ -1,0 +1,468 @@
+-- The readers of statements and blocks are good, if those of their parts are.
+use Rattle.std.proofs.Common.{◌≡◌, ◌||◌, ◌≢◌, ◌⊎◌, inl, inr, ℕ, zero, suc, ◌+◌, ◌-◌, ◌≤◌, ◌<◌, max, Bool, true, false, cond, List, [], ◌∷◌, ◌++◌, Option, Some, None, Result, Ok, Err, refl, sym, ap, subst, ◌∙◌, append_assoc, arith, nat_lt, nat_le, if◌then◌else◌}
+use Rattle.std.proofs.lemmas.List.{append-nil}
+use Rattle.std.proofs.lemmas.Bool.{leb-true, leb-false}
+use Rattle.std.specs.List.{AllByRecursion}
+use Rattle.go_ast.specs.declared.span.Span.{Span}
+use Rattle.go_ast.specs.declared.token.TokenKind.{TokenKind}
+use Rattle.go_ast.specs.declared.token.TokenKind.TheVariants as kind
+use Rattle.go_ast.specs.declared.block.Target.{Target}
+use Rattle.go_ast.specs.declared.block.Stmt.{Stmt}
+use Rattle.go_ast.specs.declared.block.StmtForm.TheVariants as statement
+use Rattle.go_ast.specs.declared.block.Block.{Block}
+use Rattle.go_grammar.specs.Words.{Word}
+use Rattle.go_grammar.specs.Terminals as t
+use Rattle.go_grammar.specs.Trees.{target_start, stmt_node, expr_end, block_node, block_left}
+use Rattle.go_grammar.specs.Lists.{MayBe, no_group}
+use Rattle.go_grammar.specs.Exprs.{no_expr}
+use Rattle.go_grammar.specs.Simple.{IsTarget, raised}
+use Rattle.go_grammar.specs.Blocks.{source, no_first, IsStmt, constants, variables, simple, nested, branch, breakable, return_none, breaks, continues, falls, goes, defers, if_, no_else, for_test, switch, select, no_cases, no_comms, IsBlock, braces, IsList, no_stmts, stmts, IsStmts, one_stmt, more_stmts}
+use Rattle.go_reading.specs.declared.fault.Fault.{Fault}
+use Rattle.go_reading.specs.declared.fault.Fault.TheVariants.{TooDeep, Exhausted}
+use Rattle.go_reading.specs.declared.header.Braced.{Braced}
+use Rattle.go_reading.specs.Kinds.{is, begins, is_one_of, starts, begins_stmt, ends_list}
+use Rattle.go_reading.specs.Input.{Outcome, Reader, go_on, take_as, next, Tall, ◌>>=◌, ◌>>◌, pure, fail, refuse, peek, take_span, expect, kind_of, span_of, if_kind, limited}
+use Rattle.go_reading.specs.Stmts.{next_from, stmts_from, list, block_in}
+use Rattle.go_reading.proofs.Good.{Room, ◌⊑◌, up, Form, At, Good, Filled, Rises, Rest, seq, weaker, fewer, good_pure, good_refuse, good_exhausted, good_far, choice, by_test, take_then, expect_then, IsTaken, a_word, some_is, same_is, is_is}
+use Rattle.go_reading.proofs.ExprsGood.{an_expr, is_an_expr}
+use Rattle.go_reading.proofs.Clauses.{list_rises}
+use Rattle.go_reading.proofs.BlockForm.{BlockOf}
+use Rattle.go_reading.proofs.StmtForms.{StmtIn, Loose, loose_rises, IsBare, target_in}
+
+-- ---- short statements
+
+pub a_return : (b : Room) → 1 ≤ b.0 → Filled b StmtIn
+a_return b some = let k = a_word t.return_word in ((stmt_node k.span.start k.span.end (statement.Return []), 1), k ∷ [], (return_none k refl, some))
+
+pub loose : (b : Room) (x : Tall Stmt) (w : List Word) → StmtIn b x w → Loose b x w
+loose b x w s = (s.0, inl s.1)
+
+pub or_second : (a b : Bool) → a ≡ false → (a || b) ≡ true → b ≡ true
+or_second true b e f' = absurd cc
+or_second false b e f' = f'
+
+a_loose : (b : Room) → 1 ≤ b.0 → Filled b Loose
+a_loose b some = let r = a_return b some in (r.0, r.1, loose b r.0 r.1 r.2)
+
+pub empty_block : (a : Word) → a.kind ≡ t.left_brace → (m : ℕ) → IsBlock source m 1 (block_node a.span.start (a_word t.right_brace).span.start []) (a_word t.right_brace).span.end (a ∷ a_word t.right_brace ∷ [])
+empty_block a k m = braces a (a_word t.right_brace) 0 [] [] k no_stmts refl
+
+a_block : (b : Room) → 1 ≤ b.0 → Filled b BlockOf
+a_block b some = let a = a_word t.left_brace in ((record { block = block_node a.span.start (a_word t.right_brace).span.start []; end = (a_word t.right_brace).span.end }, 1), a ∷ a_word t.right_brace ∷ [], (empty_block a refl b.1, some))
+
+-- ---- lists of statements
+
+abbrev pub ListIn : Form (Tall (List Stmt))
+ListIn b y w = IsList source b.1 y.1 y.0 w × (y.1 ≤ b.0)
+
+list_in_rises : Rises ListIn
+list_in_rises b c le y w s = (list_rises source b.1 c.1 le.1 y.1 y.0 w s.0, let h = s.1 in let l = le.0 in omega arith)
+
+-- the statements so far, and those in w, with a `;` behind them or not
+pub record StmtsFrom (found : List Stmt) (h : ℕ) (b : Room) (y : Tall (List Stmt)) (w : List Word) : Type 0 where
+  pub items : List Stmt
+  pub tall : ℕ
+  pub text : List Word
+  pub last : List Word
+  pub value : y ≡ (found ++ items, max h tall)
+  pub row : IsStmts source b.1 tall items text
+  pub may : MayBe t.semicolon last
+  pub both : w ≡ text ++ last
+  pub fits : tall ≤ b.0
+
+stmts_end : (found : List Stmt) (h : ℕ) (b : Room) (x : Tall Stmt) (u c : List Word) → StmtIn b x u → MayBe t.semicolon c → StmtsFrom found h b (found ++ x.0 ∷ [], max h x.1) (u ++ c)
+stmts_end found h b x u c s may = record { items = x.0 ∷ []; tall = x.1; text = u; last = c; value = refl; row = one_stmt x.1 x.0 u s.0; may = may; both = refl; fits = s.1 }
+
+stmts_more : (found : List Stmt) (h : ℕ) (b : Room) (x : Tall Stmt) (y : Tall (List Stmt)) (u v : List Word) (s : Word) → StmtIn b x u → s.kind ≡ t.semicolon → StmtsFrom (found ++ x.0 ∷ []) (max h x.1) b y v → StmtsFrom found h b y (u ++ s ∷ v)
+stmts_more found h b x y u v s i e r =
+    let m : max (max h x.1) r.tall ≡ max h (max x.1 r.tall) = omega arith in
+    let low = i.1 in
+    let low' = r.fits in
+    record {
+      items = x.0 ∷ r.items;
+      tall = max x.1 r.tall;
+      text = u ++ s ∷ r.text;
+      last = r.last;
+      value = r.value ∙ rw (append_assoc, m) refl;
+      row = more_stmts s x.1 r.tall x.0 r.items u r.text i.0 e r.row;
+      may = r.may;
+      both = rw (append_assoc, r.both) refl;
+      fits = omega arith;
+    }
+
+list_is : (b : Room) (y : Tall (List Stmt)) (w : List Word) → StmtsFrom [] 0 b y w → ListIn b y w
+list_is b y w r = let m : max 0 r.tall ≡ r.tall = omega arith in rw (r.both, r.value, m) (stmts r.tall r.items r.text r.last r.row r.may, r.fits)
+
+-- a statement that is followed by a token, in a list of any height
+far_from : (found : List Stmt) (h : ℕ) (b : Room) (x : Tall Stmt) (u : List Word) → Loose b x u → (s : Word) → s.kind ≡ t.semicolon → StmtsFrom found h (b.0 + x.1, b.1) (found ++ x.0 ∷ [], max h x.1) (u ++ s ∷ [])
+far_from found h b x u i s e = stmts_end found h (b.0 + x.1, b.1) x u (s ∷ []) (i.0, omega arith) (e, refl)
+
+abbrev pub Clause : Bool → TokenKind → Type 0
+Clause clause k = ends_list clause (Some k) ≡ true
+
+ends_not_semicolon : (clause : Bool) (o : Option TokenKind) → is o t.semicolon ≡ true → ends_list clause o ≡ false
+unfolding ends_list
+ends_not_semicolon false o e = let s = is_is o t.semicolon e in rw s refl
+ends_not_semicolon true o e = let s = is_is o t.semicolon e in rw s refl
+
+some_kind_of : (ts : List Word) (clause : Bool) → (is (kind_of ts) t.semicolon || ends_list clause (kind_of ts)) ≡ true → kind_of ts ≢ None
+unfolding ends_list
+some_kind_of [] false e = absurd cc
+some_kind_of [] true e = absurd cc
+some_kind_of (s ∷ ss) clause e = λ n. absurd cc
+
+-- where a statement is too high there is a target alone, and `++` makes it one that isn't
+some_target : Target → Option Target
+some_target g = Some g
+
+same_target : (o : Option Target) (g g' : Target) → o ≡ Some g → o ≡ Some g' → g ≡ g'
+same_target o g g' e f = cc
+
+raised_in : (b : Room) (x : Stmt) (w : List Word) (g : Target) → target_in x ≡ Some g → IsBare b x w → StmtIn b (stmt_node (target_start g) (a_word t.increment).span.end (statement.Up g), 1) (w ++ a_word t.increment ∷ [])
+raised_in b x w g e i =
+    let s : i.target ≡ g = same_target (target_in x) i.target g i.is e in
+    (simple 1 (stmt_node (target_start g) (a_word t.increment).span.end (statement.Up g)) (w ++ a_word t.increment ∷ []) (raised (a_word t.increment) g w (subst (λ (z : Target). IsTarget 0 z w) s i.spells) refl), i.some)
+
+bare_of : (c : Room) (x : Tall Stmt) (u : List Word) → ((x.1 ≤ c.0) ⊎ IsBare c x.0 u) → c.0 < x.1 → IsBare c x.0 u
+bare_of c x u (inl le) lt = absurd (omega arith)
+bare_of c x u (inr i) lt = i
+
+no_target : (o : Option Target) (g : Target) → o ≡ Some g → o ≡ None → ⊥
+no_target o g e f = cc
+
+-- behind a loose statement a list can go on
+filled_by : (found : List Stmt) (h : ℕ) (c : Room) (x : Tall Stmt) (b : Bool) → nat_le x.1 c.0 ≡ b → (o : Option Target) → target_in x.0 ≡ o → Filled c (Rest Loose (StmtsFrom found h) x)
+filled_by found h c x true e o f = ((found ++ x.0 ∷ [], max h x.1), [], λ u iu. stmts_end found h c x u [] (iu.0, leb-true x.1 c.0 e) tt)
+filled_by found h c x false e None f = ((found, h), [], λ u iu. let i = bare_of c x u iu.1 (leb-false x.1 c.0 e) in absurd (no_target (target_in x.0) i.target i.is f))
+filled_by found h c x false e (Some g) f =
+    let y = stmt_node (target_start g) (a_word t.increment).span.end (statement.Up g) in (
+      (found ++ y ∷ [], max h 1),
+      a_word t.increment ∷ [],
+      λ u iu.
+          let i = bare_of c x u iu.1 (leb-false x.1 c.0 e) in
+          rw (sym (append-nil (u ++ a_word t.increment ∷ []))) (stmts_end found h c (y, 1) (u ++ a_word t.increment ∷ []) [] (raised_in c x.0 u g f i) tt),
+    )
+
+filled_from : (found : List Stmt) (h : ℕ) (c : Room) (x : Tall Stmt) → Filled c (Rest Loose (StmtsFrom found h) x)
+filled_from found h c x = filled_by found h c x (nat_le x.1 c.0) refl (target_in x.0) refl
+
+-- ---- a reader in another form
+
+pub bind_assoc : {A B C : Type 0} (v : Result A Fault) (rest : List Word) (f' : A → Reader B) (g : B → Reader C) → go_on (go_on v rest f').0 (go_on v rest f').1 g ≡ go_on v rest (λ x. f' x >>= g)
+bind_assoc (Ok x) rest f' g = refl
+bind_assoc (Err e) rest f' g = refl
+
+if_bind : {A B : Type 0} (b : Bool) (p q : Reader A) (g : A → Reader B) (ts : List Word) → ((cond b p q) >>= g) ts ≡ (cond b (p >>= g) (q >>= g)) ts
+if_bind true p q g ts = refl
+if_bind false p q g ts = refl
+
+limited_bind : {A B : Type 0} (b : Bool) (p : Reader A) (g : A → Reader B) (ts : List Word) → ((cond b (fail TooDeep) p) >>= g) ts ≡ (cond b (fail TooDeep) (p >>= g)) ts
+limited_bind true p g ts = refl
+limited_bind false p g ts = refl
+
+at_eq : {A : Type 0} (N : ℕ) (d : Room) (K : Fault → Type 0) (R : Form A) (q q' : Reader A) (ts : List Word) (v : Result A Fault) (rest : List Word) → ((r : List Word) → q' r ≡ q r) → At N d K R q ts v rest → At N d K R q' ts v rest
+at_eq N d K R q q' ts v rest e a = record { front = a.front; cut = a.cut; same = λ s r k. e (a.front ++ r) ∙ a.same s r k; means = a.means; filled = a.filled; enough = a.enough }
+
+pub good_eq : {A : Type 0} (N : ℕ) (d : Room) (K : Fault → Type 0) (R : Form A) (p p' q q' : Reader A) (ts : List Word) → p' ts ≡ p ts → ((r : List Word) → q' r ≡ q r) → Good N d K R p q ts → Good N d K R p' q' ts
+good_eq {A} N d K R p p' q q' ts e f' a =
+    let P : Outcome A → Type 0 = λ o. At N d K R q' ts o.0 o.1 in
+    subst P (sym e) (at_eq N d K R q q' ts (p ts).0 (p ts).1 f' a)
+
+-- a reader without turns
+pub good_out_of_turns : {A : Type 0} (d : Room) (K : Fault → Type 0) (R : Form A) (p q : Reader A) (ts : List Word) → (K Exhausted → ⊥) → ((b : Room) → d ⊑ b → Filled b R) → p ts ≡ (Err Exhausted, ts) → Good 0 d K R p q ts
+good_out_of_turns {A} d K R p q ts never fill e =
+    let P : Outcome A → Type 0 = λ o. At 0 d K R q ts o.0 o.1 in
+    subst P (sym e) (good_exhausted d K R q ts never fill)
+
+-- ---- statements, and what closes their list
+
+next_eq_at : {B : Type 0} (b : Bool) (y : Tall (List Stmt)) (again : Reader (Tall (List Stmt))) (close : Tall (List Stmt) → Reader B) (clause : Bool) (ts : List Word)
+    → ((cond b (take_span >> (peek >>= λ kind. if ends_list clause kind then pure y else again)) (pure y)) >>= close) ts ≡ (cond b (take_span >>= λ _. (peek >>= λ kind. if ends_list clause kind then close y else (again >>= close))) (close y)) ts
+unfolding take_as
+next_eq_at true y again close clause ts = if_bind (ends_list clause (kind_of (next ts))) (pure y) again close (next ts)
+next_eq_at false y again close clause ts = refl
+
+pub go_on_eq : {A B : Type 0} (v : Result A Fault) (rest : List Word) (f' g : A → Reader B) → ((x : A) (r : List Word) → f' x r ≡ g x r) → go_on v rest f' ≡ go_on v rest g
+go_on_eq (Ok x) rest f' g e = e x rest
+go_on_eq (Err y) rest f' g e = refl
+
+-- what stands behind a statement of a list, and what closes the list
+behind_eq : {B : Type 0} (b : Bool) (c : ℕ) (h : ℕ) (next : Reader (Tall (List Stmt))) (close : Tall (List Stmt) → Reader B) (ts : List Word)
+    → ((cond b (limited c h next) refuse) >>= close) ts ≡ (cond b (limited c h (next >>= close)) refuse) ts
+behind_eq true c h next close ts = limited_bind (nat_lt c h) next close ts
+behind_eq false c h next close ts = refl
+
+module _ {B : Type 0} (clause : Bool) (Close : Tall (List Stmt) → Form B) where
+  -- the statements so far, and those in w, and what closes them
+  pub record BodyFrom (found : List Stmt) (h : ℕ) (b : Room) (z : B) (w : List Word) : Type 0 where
+    pub y : Tall (List Stmt)
+    pub front : List Word
+    pub back : List Word
+    pub from : StmtsFrom found h b y front
+    pub both : w ≡ front ++ back
+    pub closes : Close y b z back
+
+  module _ (K : Fault → Type 0) (never : K Exhausted → ⊥) (n n' : ℕ) (d d' : Room) (led : d ⊑ d') (deep : K TooDeep → d.0 ≡ d'.0) (some : 1 ≤ d.0) (st st' : Reader (Tall Stmt)) (stmt_good : (ts : List Word) → Good n d K Loose st st' ts)
+      (Nc : ℕ) (close close' : Tall (List Stmt) → Reader B) (rises : (y : Tall (List Stmt)) → Rises (Close y))
+      (close_good : (y : Tall (List Stmt)) (r : List Word) → ends_list clause (kind_of r) ≡ true → Good Nc d K (Close y) (close y) (close' y) r)
+      (close_far : (y : Tall (List Stmt)) (a : Word) → ends_list clause (Some a.kind) ≡ true → (k : ℕ) × (z : B) × (w : List Word) × (d.0 ≤ k) × Close y (k, d.1) z (a ∷ w))
+      (close_some : (y : Tall (List Stmt)) (c : Room) → d ⊑ c → Filled c (Close y)) where
+    body_filled : (found : List Stmt) (h : ℕ) (c : Room) → d ⊑ c → (x : Tall Stmt) → Filled c (Rest Loose (BodyFrom found h) x)
+    body_filled found h c dc x =
+        let g = filled_from found h c x in
+        let e = close_some g.0 c dc in
+        (e.0, g.1 ++ e.1, λ u iu. record { y = g.0; front = u ++ g.1; back = e.1; from = g.2 u iu; both = sym (append_assoc u g.1 e.1); closes = e.2 })
+
+    -- a token that ends the list, or goes on with it, in more room
+    body_far : (found : List Stmt) (h : ℕ) (x : Tall Stmt) (a : Word) (o : Bool) → is (Some a.kind) t.semicolon ≡ o → (is (Some a.kind) t.semicolon || ends_list clause (Some a.kind)) ≡ true
+        → (k : ℕ) × (z : B) × (w : List Word) × (d.0 ≤ k) × Rest Loose (BodyFrom found h) x (k, d.1) z (a ∷ w)
+    body_far found h x a true e test =
+        let y : Tall (List Stmt) = (found ++ x.0 ∷ [], max h x.1) in
+        let k = d.0 + x.1 in
+        let g = close_some y (k, d.1) (omega arith, omega arith) in
+        (k, g.0, g.1, omega arith, λ u iu. record { y = y; front = u ++ a ∷ []; back = g.1; from = stmts_end found h (k, d.1) x u (a ∷ []) (iu.0, omega arith) (some_is a.kind t.semicolon (is_is (Some a.kind) t.semicolon e), refl); both = sym (append_assoc u (a ∷ []) g.1); closes = g.2 })
+    body_far found h x a false e test =
+        let y : Tall (List Stmt) = (found ++ x.0 ∷ [], max h x.1) in
+        let ends : ends_list clause (Some a.kind) ≡ true = or_second (is (Some a.kind) t.semicolon) (ends_list clause (Some a.kind)) e test in
+        let g = close_far y a ends in
+        let k = g.0 + x.1 in
+        let l = g.3 in
+        (k, g.1, g.2, omega arith, λ u iu. record { y = y; front = u ++ []; back = a ∷ g.2; from = stmts_end found h (k, d.1) x u [] (iu.0, omega arith) tt; both = rw append-nil refl; closes = rises y (g.0, d.1) (k, d.1) (omega arith, omega arith) g.1 (a ∷ g.2) g.4 })
+
+    next_good : (M : ℕ) → M ≤ Nc → (found : List Stmt) (h : ℕ) (x : Tall Stmt) → x.1 ≤ d.0 → (again again' : Reader (Tall (List Stmt))) (r : List Word) → (is (kind_of r) t.semicolon || ends_list clause (kind_of r)) ≡ true
+        → ((ts : List Word) → Good (M - 1) d K (BodyFrom (found ++ x.0 ∷ []) (max h x.1)) (again >>= close) (again' >>= close') ts)
+        → Good M d K (Rest Loose (BodyFrom found h) x) (next_from n d.0 st clause (found ++ x.0 ∷ []) (max h x.1) again >>= close) (next_from n' d'.0 st' clause (found ++ x.0 ∷ []) (max h x.1) again' >>= close') r
+    unfolding next_from
+    next_good M le found h x low again again' r test more =
+        let y : Tall (List Stmt) = (found ++ x.0 ∷ [], max h x.1) in
+        good_eq M d K (Rest Loose (BodyFrom found h) x)
+        (peek >>= if_kind t.semicolon (take_span >>= λ _. (peek >>= λ kind. if ends_list clause kind then close y else (again >>= close))) (close y)) (next_from n d.0 st clause (found ++ x.0 ∷ []) (max h x.1) again >>= close)
+        (peek >>= if_kind t.semicolon (take_span >>= λ _. (peek >>= λ kind. if ends_list clause kind then close' y else (again' >>= close'))) (close' y)) (next_from n' d'.0 st' clause (found ++ x.0 ∷ []) (max h x.1) again' >>= close') r
+        (next_eq_at (is (kind_of r) t.semicolon) y again close clause r) (λ r'. next_eq_at (is (kind_of r') t.semicolon) y again' close' clause r')
+        (choice M d K _ t.semicolon _ _ _ _ r
+        (λ here. take_then M (M - 1) d K _ t.semicolon span_of _ _ r (omega arith) here (λ sp r2.
+        by_test (M - 1) d K _ (ends_list clause) _ _ _ _ r2
+        (λ over. weaker (M - 1) d K (Close y) _ _ _ _ _ (λ b db z w c v iv u iu. rw iv.1 (record { y = y; front = u ++ iv.0 ∷ []; back = w; from = stmts_end found h b x u (iv.0 ∷ []) (iu.0, let l = db.0 in omega arith) (iv.2, refl); both = sym (append_assoc u (iv.0 ∷ []) w); closes = c })) (fewer Nc (M - 1) d K _ _ _ _ _ (omega arith) (close_good y r2 over)))
+        (λ other. weaker (M - 1) d K (BodyFrom (found ++ x.0 ∷ []) (max h x.1)) _ _ _ _ _ (λ b db z w a v iv u iu. rw iv.1 (record { y = a.y; front = u ++ iv.0 ∷ a.front; back = a.back; from = stmts_more found h b x a.y u a.front iv.0 (iu.0, let l = db.0 in omega arith) iv.2 a.from; both = rw (append_assoc, a.both) refl; closes = a.closes })) (more r2))))
+        (λ other. weaker M d K (Close y) _ _ _ _ _ (λ b db z w c u iu. record { y = y; front = u ++ []; back = w; from = stmts_end found h b x u [] (iu.0, let l = db.0 in omega arith) tt; both = rw append-nil refl; closes = c }) (fewer Nc M d K _ _ _ _ _ le (close_good y r (or_second (is (kind_of r) t.semicolon) (ends_list clause (kind_of r)) other test)))))
+
+    behind : (m c : ℕ) (u : Reader (Tall Stmt)) → List Stmt → ℕ → Reader (Tall (List Stmt)) → (Tall (List Stmt) → Reader B) → Tall Stmt → Reader B
+    behind m c u found h again close x = peek >>= λ kind. if is kind t.semicolon || ends_list clause kind then limited c x.1 (next_from m c u clause (found ++ x.0 ∷ []) (max h x.1) again >>= close) else refuse
+
+    behind_good : (M : ℕ) → M ≤ Nc → (found : List Stmt) (h : ℕ) (x : Tall Stmt) (again again' : Reader (Tall (List Stmt))) (r : List Word)
+        → ((ts : List Word) → Good (M - 1) d K (BodyFrom (found ++ x.0 ∷ []) (max h x.1)) (again >>= close) (again' >>= close') ts)
+        → Good M d K (Rest Loose (BodyFrom found h) x) (behind n d.0 st found h again close x) (behind n' d'.0 st' found h again' close' x) r
+    unfolding behind
+    behind_good M le found h x again again' r more = by_test M d K _ (λ kind. is kind t.semicolon || ends_list clause kind) _ _ _ _ r
+        (λ test. good_far M K _ d d' x.1 _ _ r led deep (some_kind_of r clause test) (λ c dc. body_filled found h c dc x)
+        (λ a ea. let same' : (is (Some a.kind) t.semicolon || ends_list clause (Some a.kind)) ≡ true = ap (λ (o : Option TokenKind). is o t.semicolon || ends_list clause o) ea ∙ test in
+        body_far found h x a (is (Some a.kind) t.semicolon) refl same')
+        (λ low. next_good M le found h x low again again' r test more))
+        (λ other. good_refuse M d K _ r (λ c dc. body_filled found h c dc x))
+
+    step : (m c : ℕ) (u : Reader (Tall Stmt)) (k : ℕ) → List Stmt → ℕ → (Tall (List Stmt) → Reader B) → Tall Stmt → Reader B
+    step m c u k found h close x = behind m c u found h (stmts_from m c u clause k (found ++ x.0 ∷ []) (max h x.1)) close x
+
+    step_eq : (m c : ℕ) (u : Reader (Tall Stmt)) (k : ℕ) (found : List Stmt) (h : ℕ) (close : Tall (List Stmt) → Reader B) (ts : List Word) → (stmts_from m c u clause (suc k) found h >>= close) ts ≡ (u >>= step m c u k found h close) ts
+    unfolding stmts_from step behind
+    step_eq m c u k found h close ts =
+        let g : Tall Stmt → Reader (Tall (List Stmt)) = λ x. peek >>= (λ kind. if is kind t.semicolon || ends_list clause kind then limited c x.1 (next_from m c u clause (found ++ x.0 ∷ []) (max h x.1) (stmts_from m c u clause k (found ++ x.0 ∷ []) (max h x.1))) else refuse) in
+        bind_assoc (u ts).0 (u ts).1 g close
+        ∙ go_on_eq (u ts).0 (u ts).1 (λ x. g x >>= close) (step m c u k found h close) (λ x r. behind_eq (is (kind_of r) t.semicolon || ends_list clause (kind_of r)) c x.1 (next_from m c u clause (found ++ x.0 ∷ []) (max h x.1) (stmts_from m c u clause k (found ++ x.0 ∷ []) (max h x.1))) close r)
+
+    none_left : (k' M : ℕ) → M ≤ 0 → (found : List Stmt) (h : ℕ) (ts : List Word) → Good M d K (BodyFrom found h) (stmts_from n d.0 st clause zero found h >>= close) (stmts_from n' d'.0 st' clause k' found h >>= close') ts
+    unfolding stmts_from
+    none_left k' M mk found h ts = fewer 0 M d K _ _ _ _ _ mk (good_exhausted d K (BodyFrom found h) _ ts never (λ c dc.
+        let l = (stmt_good ts).filled c dc in
+        let g = body_filled found h c dc l.0 in
+        (g.0, l.1 ++ g.1, g.2 l.1 l.2)))
+
+    stmts_then_good : (k k' M : ℕ) → M ≤ k → k ≤ n → k ≤ k' → M ≤ Nc → (found : List Stmt) (h : ℕ) (ts : List Word)
+        → Good M d K (BodyFrom found h) (stmts_from n d.0 st clause k found h >>= close) (stmts_from n' d'.0 st' clause k' found h >>= close') ts
+    unfolding step
+    stmts_then_good zero k' M mk kn kk mc found h ts = none_left k' M mk found h ts
+    stmts_then_good (suc k) zero M mk kn kk mc found h ts = absurd (omega arith)
+    stmts_then_good (suc k) (suc k') M mk kn kk mc found h ts =
+        good_eq M d K (BodyFrom found h)
+        (st >>= step n d.0 st k found h close) (stmts_from n d.0 st clause (suc k) found h >>= close)
+        (st' >>= step n' d'.0 st' k' found h close') (stmts_from n' d'.0 st' clause (suc k') found h >>= close') ts
+        (step_eq n d.0 st k found h close ts) (λ r. step_eq n' d'.0 st' k' found h close' r)
+        (seq M d K Loose (BodyFrom found h) st' _ _ ts _ _ loose_rises (fewer n M d K _ _ _ _ _ (omega arith) (stmt_good ts)) (λ x _ r.
+        behind_good M mc found h x (stmts_from n d.0 st clause k (found ++ x.0 ∷ []) (max h x.1)) (stmts_from n' d'.0 st' clause k' (found ++ x.0 ∷ []) (max h x.1)) r
+        (λ ts'. stmts_then_good k k' (M - 1) (omega arith) (omega arith) (omega arith) (omega arith) (found ++ x.0 ∷ []) (max h x.1) ts')))
+
+-- ---- what a statement begins with
+
+-- a statement of some height begins with the token
+abbrev pub StartsStmt : Word → Type 0
+StartsStmt a = (x : Tall Stmt) × (w : List Word) × ((m : ℕ) → IsStmt source m x.1 x.0 (a ∷ w))
+
+abbrev pub Starts : TokenKind → Type 0
+Starts k = (a : Word) → a.kind ≡ k → StartsStmt a
+
+pub some_block : Block
+some_block = block_node (a_word t.left_brace).span.start (a_word t.right_brace).span.start []
+
+pub some_block_is : (m : ℕ) → IsBlock source m 1 some_block (a_word t.right_brace).span.end (a_word t.left_brace ∷ a_word t.right_brace ∷ [])
+unfolding some_block
+some_block_is m = empty_block (a_word t.left_brace) refl m
+
+pub started : AllByRecursion Starts starts
+started = (
+  λ a k. ((stmt_node a.span.start a.span.end (statement.Break None), 1), [], λ m. breaks a k),
+  (
+    λ a k. let l = a_word t.left_parenthesis in let r = a_word t.right_parenthesis in ((stmt_node a.span.start r.span.end (statement.Const []), 1), l ∷ r ∷ [], λ m. constants a 0 r.span.end [] (l ∷ r ∷ []) k (no_group l r refl refl)),
+    (
+      λ a k. ((stmt_node a.span.start a.span.end (statement.Continue None), 1), [], λ m. continues a k),
+      (
+        λ a k. ((stmt_node a.span.start (expr_end an_expr) (statement.Defer an_expr), 2), a_word kind.Name ∷ [], λ m. defers a 7 1 an_expr (a_word kind.Name ∷ []) k is_an_expr),
+        (
+          λ a k. ((stmt_node a.span.start a.span.end statement.Fallthrough, 1), [], λ m. falls a k),
+          (
+            λ a k. ((stmt_node a.span.start (a_word t.right_brace).span.end (statement.For None None None some_block), max 0 1 + 1), a_word t.left_brace ∷ a_word t.right_brace ∷ [], λ m. breakable (max 0 1 + 1) (stmt_node a.span.start (a_word t.right_brace).span.end (statement.For None None None some_block)) (a ∷ a_word t.left_brace ∷ a_word t.right_brace ∷ []) (for_test a 0 1 (a_word t.right_brace).span.end None some_block [] (a_word t.left_brace ∷ a_word t.right_brace ∷ []) k no_expr (some_block_is m))),
+            (
+              λ a k. ((stmt_node a.span.start (expr_end an_expr) (statement.Go an_expr), 2), a_word kind.Name ∷ [], λ m. goes a 7 1 an_expr (a_word kind.Name ∷ []) k is_an_expr),
+              (
+                λ a k. (
+                  (stmt_node a.span.start (a_word t.right_brace).span.end (statement.If None an_expr some_block None), max (max 0 1) (max 1 0) + 1),
+                  a_word kind.Name ∷ a_word t.left_brace ∷ a_word t.right_brace ∷ [],
+                  λ m. branch (max (max 0 1) (max 1 0) + 1) (stmt_node a.span.start (a_word t.right_brace).span.end (statement.If None an_expr some_block None)) (a ∷ a_word kind.Name ∷ a_word t.left_brace ∷ a_word t.right_brace ∷ [])
+                      (if_ a 7 0 1 1 0 (a_word t.right_brace).span.end (a_word t.right_brace).span.end None an_expr some_block None [] (a_word kind.Name ∷ []) (a_word t.left_brace ∷ a_word t.right_brace ∷ []) [] k no_first is_an_expr (some_block_is m) (no_else (a_word t.right_brace).span.end)),
+                ),
+                (
+                  λ a k. ((stmt_node a.span.start a.span.end (statement.Return []), 1), [], λ m. return_none a k),
+                  (
+                    λ a k. let l = a_word t.left_brace in let r = a_word t.right_brace in ((stmt_node a.span.start r.span.end (statement.Select l.span.start []), 1), l ∷ r ∷ [], λ m. breakable 1 (stmt_node a.span.start r.span.end (statement.Select l.span.start [])) (a ∷ l ∷ r ∷ []) (select a l r 0 [] [] k refl no_comms (omega arith) refl)),
+                    (
+                      λ a k. let l = a_word t.left_brace in let r = a_word t.right_brace in ((stmt_node a.span.start r.span.end (statement.Switch None None l.span.start []), max (max 0 0) 0 + 1), l ∷ r ∷ [], λ m. breakable (max (max 0 0) 0 + 1) (stmt_node a.span.start r.span.end (statement.Switch None None l.span.start [])) (a ∷ l ∷ r ∷ []) (switch a l r 0 0 0 None None [] [] [] [] k no_first no_expr refl no_cases refl)),
+                      (
+                        λ a k. let l = a_word t.left_parenthesis in let r = a_word t.right_parenthesis in ((stmt_node a.span.start r.span.end (statement.Var []), 1), l ∷ r ∷ [], λ m. variables a 0 r.span.end [] (l ∷ r ∷ []) k (no_group l r refl refl)),
+                        (
+                          λ a k. let r = a_word t.right_brace in let b = block_node a.span.start r.span.start [] in ((stmt_node (block_left b) r.span.end (statement.Block b), 2), r ∷ [], λ m. nested 1 r.span.end b (a ∷ r ∷ []) (empty_block a k m)),
+                          tt,
+                        ),
+                      ),
+                    ),
+                  ),
+                ),
+              ),
+            ),
+          ),
+        ),
+      ),
+    ),
+  ),
+)
+
+pub started_by : (ks : List TokenKind) → AllByRecursion Starts ks → (a : Word) → is_one_of ks (Some a.kind) ≡ true → StartsStmt a
+started_by [] all a e = absurd cc
+started_by (k ∷ ks) all a e = pick (is (Some a.kind) k) refl e (λ f'. started_by ks all.1 a f')
+  where
+    pick : (b : Bool) → is (Some a.kind) k ≡ b → (b || is_one_of ks (Some a.kind)) ≡ true → (is_one_of ks (Some a.kind) ≡ true → StartsStmt a) → StartsStmt a
+    pick true y f' more = all.0 a (some_is a.kind k (is_is (Some a.kind) k y))
+    pick false y f' more = more f'
+
+-- ---- a list, and what closes it
+
+list_eq : {B : Type 0} (n c : ℕ) (u : Reader (Tall Stmt)) (clause : Bool) (close : Tall (List Stmt) → Reader B) (ts : List Word)
+    → (list n c u clause >>= close) ts ≡ (peek >>= λ kind. if ends_list clause kind then close ([], 0) else (peek >>= λ kind. if begins_stmt kind then limited c 1 (stmts_from n c u clause n [] 0 >>= close) else refuse)) ts
+unfolding list
+list_eq n c u clause close ts = ends (ends_list clause (kind_of ts))
+  where
+    starts_at : (b : Bool) → ((cond b (limited c 1 (stmts_from n c u clause n [] 0)) refuse) >>= close) ts ≡ (cond b (limited c 1 (stmts_from n c u clause n [] 0 >>= close)) refuse) ts
+    starts_at true = limited_bind (nat_lt c 1) (stmts_from n c u clause n [] 0) close ts
+    starts_at false = refl
+
+    ends : (b : Bool) → ((cond b (pure ([], 0)) (peek >>= λ kind. if begins_stmt kind then limited c 1 (stmts_from n c u clause n [] 0) else refuse)) >>= close) ts
+        ≡ (cond b (close ([], 0)) (peek >>= λ kind. if begins_stmt kind then limited c 1 (stmts_from n c u clause n [] 0 >>= close) else refuse)) ts
+    ends true = refl
+    ends false = starts_at (begins_stmt (kind_of ts))
+
+module _ {B : Type 0} (clause : Bool) (Close : Tall (List Stmt) → Form B) where
+  -- a list in the room, and what closes it
+  pub record BodyOf (b : Room) (z : B) (w : List Word) : Type 0 where
+    pub y : Tall (List Stmt)
+    pub front : List Word
+    pub back : List Word
+    pub from : ListIn b y front
+    pub both : w ≡ front ++ back
+    pub closes : Close y b z back
+
+  pub body_of : (b : Room) (z : B) (w : List Word) → BodyFrom clause Close [] 0 b z w → BodyOf b z w
+  body_of b z w a = record { y = a.y; front = a.front; back = a.back; from = list_is b a.y a.front a.from; both = a.both; closes = a.closes }
+
+  module _ (K : Fault → Type 0) (never : K Exhausted → ⊥) (n n' : ℕ) (len : n ≤ n') (d d' : Room) (led : d ⊑ d') (deep : K TooDeep → d.0 ≡ d'.0) (st st' : Reader (Tall Stmt)) (stmt_good : 1 ≤ d.0 → (ts : List Word) → Good n d K Loose st st' ts)
+      (started_all : (a : Word) → begins_stmt (Some a.kind) ≡ true → StartsStmt a)
+      (Nc : ℕ) (fewer_turns : Nc ≤ n) (close close' : Tall (List Stmt) → Reader B) (rises : (y : Tall (List Stmt)) → Rises (Close y))
+      (close_good : (y : Tall (List Stmt)) (r : List Word) → ends_list clause (kind_of r) ≡ true → Good Nc d K (Close y) (close y) (close' y) r)
+      (close_far : (y : Tall (List Stmt)) (a : Word) → ends_list clause (Some a.kind) ≡ true → (k : ℕ) × (z : B) × (w : List Word) × (d.0 ≤ k) × Close y (k, d.1) z (a ∷ w))
+      (close_some : (y : Tall (List Stmt)) (c : Room) → d ⊑ c → Filled c (Close y)) where
+    empty_body : (c : Room) → d ⊑ c → Filled c BodyOf
+    empty_body c dc = let e = close_some ([], 0) c dc in (e.0, e.1, record { y = ([], 0); front = []; back = e.1; from = (no_stmts, omega arith); both = refl; closes = e.2 })
+
+    started_body : (a : Word) → StartsStmt a → (k : ℕ) × (z : B) × (w : List Word) × (d.0 ≤ k) × BodyOf (k, d.1) z (a ∷ w)
+    started_body a x =
+        let k = d.0 + x.0.1 in
+        let y : Tall (List Stmt) = (x.0.0 ∷ [], x.0.1) in
+        let e = close_some y (k, d.1) (omega arith, omega arith) in
+        (k, e.0, x.1 ++ e.1, omega arith, record { y = y; front = a ∷ x.1; back = e.1; from = (subst (IsList source d.1 x.0.1 (x.0.0 ∷ [])) (append-nil (a ∷ x.1)) (stmts x.0.1 (x.0.0 ∷ []) (a ∷ x.1) [] (one_stmt x.0.1 x.0.0 (a ∷ x.1) (x.2 d.1)) tt), omega arith); both = refl; closes = e.2 })
+
+    some_start : (o : Option TokenKind) → begins_stmt o ≡ true → o ≢ None
+    unfolding begins_stmt begins
+    some_start None b n = absurd cc
+    some_start (Some k) b n = cc
+
+    pub list_then_good : (ts : List Word) → Good Nc d K BodyOf (list n d.0 st clause >>= close) (list n' d'.0 st' clause >>= close') ts
+    list_then_good ts =
+        good_eq Nc d K BodyOf
+        (peek >>= λ kind. if ends_list clause kind then close ([], 0) else (peek >>= λ kind. if begins_stmt kind then limited d.0 1 (stmts_from n d.0 st clause n [] 0 >>= close) else refuse)) (list n d.0 st clause >>= close)
+        (peek >>= λ kind. if ends_list clause kind then close' ([], 0) else (peek >>= λ kind. if begins_stmt kind then limited d'.0 1 (stmts_from n' d'.0 st' clause n' [] 0 >>= close') else refuse)) (list n' d'.0 st' clause >>= close') ts
+        (list_eq n d.0 st clause close ts) (λ r. list_eq n' d'.0 st' clause close' r)
+        (by_test Nc d K BodyOf (ends_list clause) _ _ _ _ ts
+        (λ over. weaker Nc d K (Close ([], 0)) BodyOf _ _ _ _ (λ b db z w c. record { y = ([], 0); front = []; back = w; from = (no_stmts, omega arith); both = refl; closes = c }) (close_good ([], 0) ts over))
+        (λ other. by_test Nc d K BodyOf begins_stmt _ _ _ _ ts
+        (λ here. good_far Nc K BodyOf d d' 1 _ _ ts led deep (some_start (kind_of ts) here) empty_body
+        (λ a ea. started_body a (started_all a (ap begins_stmt ea ∙ here)))
+        (λ some. weaker Nc d K (BodyFrom clause Close [] 0) BodyOf _ _ _ _ (λ b db. body_of b)
+        (stmts_then_good clause Close K never n n' d d' led deep some st st' (stmt_good some) Nc close close' rises close_good close_far close_some n n' Nc fewer_turns (omega arith) len (omega arith) [] 0 ts)))
+        (λ there. good_refuse Nc d K BodyOf ts empty_body)))
+
+-- ---- blocks
+
+-- the brace that closes a block behind a list
+abbrev pub Braces : Span → Tall (List Stmt) → Form (Tall Braced)
+Braces left y b z w = (a : Word) × (w ≡ a ∷ []) × (a.kind ≡ t.right_brace) × (z ≡ (record { block = block_node left.start a.span.start y.0; end = a.span.end }, y.1 + 1))
+
+close_block : Span → Tall (List Stmt) → Reader (Tall Braced)
+close_block left xs = expect t.right_brace >>= λ right. pure (record { block = block_node left.start right.start xs.0; end = right.end }, xs.1 + 1)
+
+braces_rise : (left : Span) (y : Tall (List Stmt)) → Rises (Braces left y)
+braces_rise left y b c le z w s = s
+
+ends_block : (k : TokenKind) → ends_list false (Some k) ≡ true → k ≡ t.right_brace
+unfolding ends_list
+ends_block k e = same_is k t.right_brace e
+
+close_block_good : (N : ℕ) (d : Room) (K : Fault → Type 0) (left : Span) (y : Tall (List Stmt)) (r : List Word) → Good N d K (Braces left y) (close_block left y) (close_block left y) r
+unfolding close_block
+close_block_good N d K left y r = expect_then N d K _ t.right_brace span_of _ _ r (λ sp r2. good_pure N d K _ _ r2 (λ b db u iu. (iu.0, rw append-nil iu.1, iu.2, rw iu.3 refl)))
+
+block_close : Span → Tall (List Stmt) → Word → Tall Braced
+block_close left y a = (record { block = block_node left.start a.span.start y.0; end = a.span.end }, y.1 + 1)
+
+block_is : (b : Room) (left : Span) (z : Tall Braced) (u w : List Word) → IsTaken t.left_brace span_of b left u → BodyOf false (Braces left) b z w → BlockOf (up b) z (u ++ w)
+block_is b left z u w iu body =
+    let c = body.closes in
+    let f' = body.from.1 in
+    rw (iu.1, body.both, c.1, c.3, iu.3) (braces iu.0 c.0 body.y.1 body.y.0 body.front iu.2 body.from.0 c.2, omega arith)
+
+module _ (K : Fault → Type 0) (never : K Exhausted → ⊥) (n n' : ℕ) (len : n ≤ n') (d d' : Room) (led : d ⊑ d') (deep : K TooDeep → d.0 ≡ d'.0) (st st' : Reader (Tall Stmt)) (stmt_good : 1 ≤ d.0 → (ts : List Word) → Good n d K Loose st st' ts)
+    (started_all : (a : Word) → begins_stmt (Some a.kind) ≡ true → StartsStmt a) where
+  pub block_in_good : (ts : List Word) → Good n d K (λ b. BlockOf (up b)) (block_in n d.0 st) (block_in n' d'.0 st') ts
+  unfolding block_in close_block block_close
+  block_in_good ts = expect_then n d K _ t.left_brace span_of _ _ ts (λ left r.
+      weaker n d K (BodyOf false (Braces left)) _ _ _ _ _ (λ b db z w a u iu. block_is b left z u w iu a)
+      (list_then_good false (Braces left) K never n n' len d d' led deep st st' stmt_good started_all n (omega arith) (close_block left) (close_block left) (braces_rise left)
+      (λ y r2 e. close_block_good n d K left y r2)
+      (λ y a e. (d.0, block_close left y a, [], omega arith, (a, refl, ends_block a.kind e, refl)))
+      (λ y c dc. (block_close left y (a_word t.right_brace), a_word t.right_brace ∷ [], (a_word t.right_brace, refl, refl, refl))) r))

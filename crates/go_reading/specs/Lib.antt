@@ -1,0 +1,11 @@
+pub mod Decls
+pub mod Exprs
+pub mod Files
+pub mod Input
+pub mod Kinds
+pub mod Lists
+pub mod Outcomes
+pub mod Simple
+pub mod Specs
+pub mod Stmts
+pub mod Types
