@@ -23,7 +23,7 @@ use Rattle.go_reading.proofs.Good.{Room, ◌⊑◌, up, Form, Good, Filled, seq,
 use Rattle.go_reading.proofs.Rows.{Within, some_not_none}
 use Rattle.go_reading.proofs.BlockForm.{BlockOf, block_of_rises}
 use Rattle.go_reading.proofs.StmtForms.{Loose, HeaderOf, header_rises, IsForHead, test_is, parts_are, range_is, IsCaseHead}
-use Rattle.go_reading.proofs.StmtsGood.{StartsStmt, some_block, some_block_is, empty_block}
+use Rattle.go_reading.proofs.Started.{StartsStmt, some_block, some_block_is, empty_block}
 use Rattle.go_reading.proofs.CasesGood.{CasesFrom, cases_then_good}
 use Rattle.go_reading.proofs.HeadsGood.{maybe_header_good}
 use Rattle.go_reading.proofs.ForGood.{for_head_then}

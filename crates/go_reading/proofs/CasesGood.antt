@@ -21,7 +21,9 @@ use Rattle.go_reading.proofs.Rows.{Within, within_rises}
 use Rattle.go_reading.proofs.ExprsGood.{an_expr, is_an_expr}
 use Rattle.go_reading.proofs.Clauses.{cases_rise}
 use Rattle.go_reading.proofs.StmtForms.{Loose, IsCaseHead, case_is, default_is}
-use Rattle.go_reading.proofs.StmtsGood.{StartsStmt, BodyOf, list_then_good, bind_assoc, go_on_eq, good_eq, good_out_of_turns}
+use Rattle.go_reading.proofs.Full.{never_full}
+use Rattle.go_reading.proofs.Started.{StartsStmt}
+use Rattle.go_reading.proofs.StmtsGood.{BodyOf, list_then_good, bind_assoc, go_on_eq, good_eq, good_out_of_turns}
 
 -- ---- what stands before the brace that closes a `switch`
 
@@ -78,18 +80,18 @@ module _ {B : Type 0} (Fin : Tall (List CaseClause) → Form B) where
 
 cases_eq : {B : Type 0} (n c : ℕ) (u : Reader (Tall Stmt)) (k : ℕ) (found : List CaseClause) (h : ℕ) (fin : Tall (List CaseClause) → Reader B) (ts : List Word)
     → (cases_from n c u (suc k) found h >>= fin) ts
-    ≡ (peek >>= λ kind. if begins_clause kind then (case_head n c >>= λ x. list n c u true >>= λ xs. (cases_from n c u k (found ++ case_node x.0.0 x.0.1 xs.0 ∷ []) (max h (max x.1 xs.1)) >>= fin)) else fin (found, h)) ts
+    ≡ (peek >>= λ kind. if begins_clause kind then (case_head n c >>= λ x. list n c u true false >>= λ xs. (cases_from n c u k (found ++ case_node x.0.0 x.0.1 xs.0 ∷ []) (max h (max x.1 xs.1)) >>= fin)) else fin (found, h)) ts
 unfolding cases_from
 cases_eq n c u k found h fin ts = at_kind (begins_clause (kind_of ts))
   where
     more : Tall (Option (List Expr) × ℕ) → Tall (List Stmt) → Reader (Tall (List CaseClause))
     more x xs = cases_from n c u k (found ++ case_node x.0.0 x.0.1 xs.0 ∷ []) (max h (max x.1 xs.1))
 
-    at_kind : (b : Bool) → ((cond b (case_head n c >>= λ x. list n c u true >>= λ xs. more x xs) (pure (found, h))) >>= fin) ts ≡ (cond b (case_head n c >>= λ x. list n c u true >>= λ xs. (more x xs >>= fin)) (fin (found, h))) ts
+    at_kind : (b : Bool) → ((cond b (case_head n c >>= λ x. list n c u true false >>= λ xs. more x xs) (pure (found, h))) >>= fin) ts ≡ (cond b (case_head n c >>= λ x. list n c u true false >>= λ xs. (more x xs >>= fin)) (fin (found, h))) ts
     at_kind true =
-        bind_assoc (case_head n c ts).0 (case_head n c ts).1 (λ x. list n c u true >>= λ xs. more x xs) fin
-        ∙ go_on_eq (case_head n c ts).0 (case_head n c ts).1 (λ x. (list n c u true >>= λ xs. more x xs) >>= fin) (λ x. list n c u true >>= λ xs. (more x xs >>= fin))
-        (λ x r. bind_assoc (list n c u true r).0 (list n c u true r).1 (more x) fin)
+        bind_assoc (case_head n c ts).0 (case_head n c ts).1 (λ x. list n c u true false >>= λ xs. more x xs) fin
+        ∙ go_on_eq (case_head n c ts).0 (case_head n c ts).1 (λ x. (list n c u true false >>= λ xs. more x xs) >>= fin) (λ x. list n c u true false >>= λ xs. (more x xs >>= fin))
+        (λ x r. bind_assoc (list n c u true false r).0 (list n c u true false r).1 (more x) fin)
     at_kind false = refl
 
 head_some : (b : Room) (x : Tall (Option (List Expr) × ℕ)) (w : List Word) → Within IsCaseHead b x w → 1 ≤ length w
@@ -152,17 +154,18 @@ module _ {B : Type 0} (Fin : Tall (List CaseClause) → Form B) (K : Fault → T
   cases_then_good (suc k) zero kn kk found h ts = absurd (omega arith)
   cases_then_good (suc k) (suc k') kn kk found h ts =
       good_eq (suc k) d K (CasesFrom Fin found h)
-      (peek >>= λ kind. if begins_clause kind then (case_head n d.0 >>= λ x. list n d.0 st true >>= λ xs. (cases_from n d.0 st k (found ++ case_node x.0.0 x.0.1 xs.0 ∷ []) (max h (max x.1 xs.1)) >>= fin)) else fin (found, h)) (cases_from n d.0 st (suc k) found h >>= fin)
-      (peek >>= λ kind. if begins_clause kind then (case_head n' d'.0 >>= λ x. list n' d'.0 st' true >>= λ xs. (cases_from n' d'.0 st' k' (found ++ case_node x.0.0 x.0.1 xs.0 ∷ []) (max h (max x.1 xs.1)) >>= fin')) else fin' (found, h)) (cases_from n' d'.0 st' (suc k') found h >>= fin') ts
+      (peek >>= λ kind. if begins_clause kind then (case_head n d.0 >>= λ x. list n d.0 st true false >>= λ xs. (cases_from n d.0 st k (found ++ case_node x.0.0 x.0.1 xs.0 ∷ []) (max h (max x.1 xs.1)) >>= fin)) else fin (found, h)) (cases_from n d.0 st (suc k) found h >>= fin)
+      (peek >>= λ kind. if begins_clause kind then (case_head n' d'.0 >>= λ x. list n' d'.0 st' true false >>= λ xs. (cases_from n' d'.0 st' k' (found ++ case_node x.0.0 x.0.1 xs.0 ∷ []) (max h (max x.1 xs.1)) >>= fin')) else fin' (found, h)) (cases_from n' d'.0 st' (suc k') found h >>= fin') ts
       (cases_eq n d.0 st k found h fin ts) (λ r. cases_eq n' d'.0 st' k' found h fin' r)
       (by_test (suc k) d K _ begins_clause _ _ _ _ ts
       (λ here. seq_less (suc k) k d K (Within IsCaseHead) _ (case_head n' d'.0) _ _ ts _ _ (omega arith) head_some (within_rises IsCaseHead) (fewer n (suc k) d K _ _ _ _ _ kn (head_good ts here)) (λ x _ r.
       weaker k d K (BodyOf true (Clause Fin found h x)) _ _ _ _ _ (λ b db z w a u iu. more_from Fin found h b x z u w iu a)
-      (list_then_good true (Clause Fin found h x) K never n n' len d d' led deep st st' stmt_good started_all k (omega arith)
+      (list_then_good true (Clause Fin found h x) K never n n' len d d' led deep st st' stmt_good started_all false false (never_full K) k (omega arith)
       (λ xs. cases_from n d.0 st k (found ++ case_node x.0.0 x.0.1 xs.0 ∷ []) (max h (max x.1 xs.1)) >>= fin)
       (λ xs. cases_from n' d'.0 st' k' (found ++ case_node x.0.0 x.0.1 xs.0 ∷ []) (max h (max x.1 xs.1)) >>= fin')
       (λ y. cases_from_rise Fin rises (found ++ case_node x.0.0 x.0.1 y.0 ∷ []) (max h (max x.1 y.1)))
       (λ y r2 e. cases_then_good k k' (omega arith) (omega arith) (found ++ case_node x.0.0 x.0.1 y.0 ∷ []) (max h (max x.1 y.1)) r2)
-      (λ y a e. clause_far (found ++ case_node x.0.0 x.0.1 y.0 ∷ []) (max h (max x.1 y.1)) a (ends_clause a.kind e))
+      (λ y a e few. clause_far (found ++ case_node x.0.0 x.0.1 y.0 ∷ []) (max h (max x.1 y.1)) a (ends_clause a.kind e))
+      (λ y a all begins. absurd cc)
       (λ y c dc. cases_filled (found ++ case_node x.0.0 x.0.1 y.0 ∷ []) (max h (max x.1 y.1)) c) r)))
       (λ other. weaker (suc k) d K (Fin (found, h)) _ _ _ _ _ (λ b db z w i. none_from Fin found h b z w i) (fewer n (suc k) d K _ _ _ _ _ kn (fin_good (found, h) ts))))

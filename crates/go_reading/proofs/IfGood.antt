@@ -24,7 +24,7 @@ use Rattle.go_reading.proofs.ExprsGood.{an_expr, is_an_expr}
 use Rattle.go_reading.proofs.Clauses.{if_rises, else_rises}
 use Rattle.go_reading.proofs.BlockForm.{BlockOf, block_of_rises}
 use Rattle.go_reading.proofs.StmtForms.{HeaderOf, header_rises}
-use Rattle.go_reading.proofs.StmtsGood.{some_block, some_block_is, empty_block}
+use Rattle.go_reading.proofs.Started.{some_block, some_block_is, empty_block}
 
 abbrev pub IfOf : Form (Tall Stmt)
 IfOf b x w = IsIf source b.1 x.1 x.0 w × (x.1 ≤ b.0)

@@ -20,6 +20,8 @@ pub mod StmtForms
 pub mod LeadGood
 pub mod BareGood
 pub mod SimpleGood
+pub mod Full
+pub mod Started
 pub mod StmtsGood
 pub mod CasesGood
 pub mod IfGood

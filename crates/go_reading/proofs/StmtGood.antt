@@ -19,7 +19,8 @@ use Rattle.go_reading.proofs.Good.{Room, ◌⊑◌, up, Good, weaker, good_limit
 use Rattle.go_reading.proofs.Rows.{some_not_none}
 use Rattle.go_reading.proofs.BlockForm.{BlockOf, BlockGood}
 use Rattle.go_reading.proofs.StmtForms.{StmtIn, Loose}
-use Rattle.go_reading.proofs.StmtsGood.{StartsStmt, started, started_by, loose, a_return, block_in_good, good_eq}
+use Rattle.go_reading.proofs.Started.{StartsStmt, started, started_by}
+use Rattle.go_reading.proofs.StmtsGood.{loose, a_return, block_in_good, good_eq}
 use Rattle.go_reading.proofs.LeadGood.{begun_expr}
 use Rattle.go_reading.proofs.PlainGood.{BreakOf, plain_in}
 use Rattle.go_reading.proofs.HeadsGood.{header_good}

@@ -1,30 +1,27 @@
 -- The readers of statements and blocks are good, if those of their parts are.
-use Rattle.std.proofs.Common.{◌≡◌, ◌||◌, ◌≢◌, ◌⊎◌, inl, inr, ℕ, zero, suc, ◌+◌, ◌-◌, ◌≤◌, ◌<◌, max, Bool, true, false, cond, List, [], ◌∷◌, ◌++◌, Option, Some, None, Result, Ok, Err, refl, sym, ap, subst, ◌∙◌, append_assoc, arith, nat_lt, nat_le, if◌then◌else◌}
+use Rattle.std.proofs.Common.{◌≡◌, ◌||◌, ◌&&◌, ◌≢◌, ◌⊎◌, inl, inr, ℕ, zero, suc, ◌+◌, ◌-◌, ◌≤◌, ◌<◌, max, Bool, true, false, cond, List, [], ◌∷◌, ◌++◌, Option, Some, None, Result, Ok, Err, refl, sym, ap, subst, ◌∙◌, append_assoc, arith, nat_lt, nat_le, if◌then◌else◌}
 use Rattle.std.proofs.lemmas.List.{append-nil}
 use Rattle.std.proofs.lemmas.Bool.{leb-true, leb-false}
-use Rattle.std.specs.List.{AllByRecursion}
 use Rattle.go_ast.specs.declared.span.Span.{Span}
 use Rattle.go_ast.specs.declared.token.TokenKind.{TokenKind}
-use Rattle.go_ast.specs.declared.token.TokenKind.TheVariants as kind
 use Rattle.go_ast.specs.declared.block.Target.{Target}
 use Rattle.go_ast.specs.declared.block.Stmt.{Stmt}
 use Rattle.go_ast.specs.declared.block.StmtForm.TheVariants as statement
-use Rattle.go_ast.specs.declared.block.Block.{Block}
 use Rattle.go_grammar.specs.Words.{Word}
 use Rattle.go_grammar.specs.Terminals as t
-use Rattle.go_grammar.specs.Trees.{target_start, stmt_node, expr_end, block_node, block_left}
-use Rattle.go_grammar.specs.Lists.{MayBe, no_group}
-use Rattle.go_grammar.specs.Exprs.{no_expr}
+use Rattle.go_grammar.specs.Trees.{target_start, stmt_node, block_node}
+use Rattle.go_grammar.specs.Lists.{MayBe}
 use Rattle.go_grammar.specs.Simple.{IsTarget, raised}
-use Rattle.go_grammar.specs.Blocks.{source, no_first, IsStmt, constants, variables, simple, nested, branch, breakable, return_none, breaks, continues, falls, goes, defers, if_, no_else, for_test, switch, select, no_cases, no_comms, IsBlock, braces, IsList, no_stmts, stmts, IsStmts, one_stmt, more_stmts}
+use Rattle.go_grammar.specs.Blocks.{source, simple, return_none, braces, IsList, no_stmts, stmts, IsStmts, one_stmt, more_stmts}
 use Rattle.go_reading.specs.declared.fault.Fault.{Fault}
-use Rattle.go_reading.specs.declared.fault.Fault.TheVariants.{TooDeep, Exhausted}
+use Rattle.go_reading.specs.declared.fault.Fault.TheVariants.{TooDeep, TooMany, Exhausted}
 use Rattle.go_reading.specs.declared.header.Braced.{Braced}
-use Rattle.go_reading.specs.Kinds.{is, begins, is_one_of, starts, begins_stmt, ends_list}
+use Rattle.go_reading.specs.Kinds.{is, begins, begins_stmt, ends_list}
 use Rattle.go_reading.specs.Input.{Outcome, Reader, go_on, take_as, next, Tall, ◌>>=◌, ◌>>◌, pure, fail, refuse, peek, take_span, expect, kind_of, span_of, if_kind, limited}
-use Rattle.go_reading.specs.Stmts.{next_from, stmts_from, list, block_in}
+use Rattle.go_reading.specs.Stmts.{begins_clause, next_from, stmts_from, list, block_in}
 use Rattle.go_reading.proofs.Good.{Room, ◌⊑◌, up, Form, At, Good, Filled, Rises, Rest, seq, weaker, fewer, good_pure, good_refuse, good_exhausted, good_far, choice, by_test, take_then, expect_then, IsTaken, a_word, some_is, same_is, is_is}
-use Rattle.go_reading.proofs.ExprsGood.{an_expr, is_an_expr}
+use Rattle.go_reading.proofs.Full.{Flags, never_full, good_full}
+use Rattle.go_reading.proofs.Started.{StartsStmt, empty_block}
 use Rattle.go_reading.proofs.Clauses.{list_rises}
 use Rattle.go_reading.proofs.BlockForm.{BlockOf}
 use Rattle.go_reading.proofs.StmtForms.{StmtIn, Loose, loose_rises, IsBare, target_in}
@@ -43,9 +40,6 @@ or_second false b e f' = f'
 
 a_loose : (b : Room) → 1 ≤ b.0 → Filled b Loose
 a_loose b some = let r = a_return b some in (r.0, r.1, loose b r.0 r.1 r.2)
-
-pub empty_block : (a : Word) → a.kind ≡ t.left_brace → (m : ℕ) → IsBlock source m 1 (block_node a.span.start (a_word t.right_brace).span.start []) (a_word t.right_brace).span.end (a ∷ a_word t.right_brace ∷ [])
-empty_block a k m = braces a (a_word t.right_brace) 0 [] [] k no_stmts refl
 
 a_block : (b : Room) → 1 ≤ b.0 → Filled b BlockOf
 a_block b some = let a = a_word t.left_brace in ((record { block = block_node a.span.start (a_word t.right_brace).span.start []; end = (a_word t.right_brace).span.end }, 1), a ∷ a_word t.right_brace ∷ [], (empty_block a refl b.1, some))
@@ -187,10 +181,14 @@ go_on_eq (Ok x) rest f' g e = e x rest
 go_on_eq (Err y) rest f' g e = refl
 
 -- what stands behind a statement of a list, and what closes the list
-behind_eq : {B : Type 0} (b : Bool) (c : ℕ) (h : ℕ) (next : Reader (Tall (List Stmt))) (close : Tall (List Stmt) → Reader B) (ts : List Word)
-    → ((cond b (limited c h next) refuse) >>= close) ts ≡ (cond b (limited c h (next >>= close)) refuse) ts
-behind_eq true c h next close ts = limited_bind (nat_lt c h) next close ts
-behind_eq false c h next close ts = refl
+behind_eq : {B : Type 0} (b full : Bool) (c : ℕ) (h : ℕ) (next : Reader (Tall (List Stmt))) (close : Tall (List Stmt) → Reader B) (ts : List Word)
+    → ((cond b (peek >>= λ kind. if full && begins_clause kind then fail TooMany else limited c h next) refuse) >>= close) ts ≡ (cond b (peek >>= λ kind. if full && begins_clause kind then fail TooMany else limited c h (next >>= close)) refuse) ts
+behind_eq true full c h next close ts = by (full && begins_clause (kind_of ts))
+  where
+    by : (f : Bool) → ((cond f (fail TooMany) (limited c h next)) >>= close) ts ≡ (cond f (fail TooMany) (limited c h (next >>= close))) ts
+    by true = refl
+    by false = limited_bind (nat_lt c h) next close ts
+behind_eq false full c h next close ts = refl
 
 module _ {B : Type 0} (clause : Bool) (Close : Tall (List Stmt) → Form B) where
   -- the statements so far, and those in w, and what closes them
@@ -203,9 +201,10 @@ module _ {B : Type 0} (clause : Bool) (Close : Tall (List Stmt) → Form B) wher
     pub closes : Close y b z back
 
   module _ (K : Fault → Type 0) (never : K Exhausted → ⊥) (n n' : ℕ) (d d' : Room) (led : d ⊑ d') (deep : K TooDeep → d.0 ≡ d'.0) (some : 1 ≤ d.0) (st st' : Reader (Tall Stmt)) (stmt_good : (ts : List Word) → Good n d K Loose st st' ts)
-      (Nc : ℕ) (close close' : Tall (List Stmt) → Reader B) (rises : (y : Tall (List Stmt)) → Rises (Close y))
+      (full full' : Bool) (flags : Flags K full full') (Nc : ℕ) (close close' : Tall (List Stmt) → Reader B) (rises : (y : Tall (List Stmt)) → Rises (Close y))
       (close_good : (y : Tall (List Stmt)) (r : List Word) → ends_list clause (kind_of r) ≡ true → Good Nc d K (Close y) (close y) (close' y) r)
-      (close_far : (y : Tall (List Stmt)) (a : Word) → ends_list clause (Some a.kind) ≡ true → (k : ℕ) × (z : B) × (w : List Word) × (d.0 ≤ k) × Close y (k, d.1) z (a ∷ w))
+      (close_far : (y : Tall (List Stmt)) (a : Word) → ends_list clause (Some a.kind) ≡ true → (full && begins_clause (Some a.kind)) ≡ false → (k : ℕ) × (z : B) × (w : List Word) × (d.0 ≤ k) × Close y (k, d.1) z (a ∷ w))
+      (close_many : (y : Tall (List Stmt)) (a : Word) → full ≡ true → begins_clause (Some a.kind) ≡ true → (b : Room) × (z : B) × (w : List Word) × (d ⊑ b) × Close y b z (a ∷ w))
       (close_some : (y : Tall (List Stmt)) (c : Room) → d ⊑ c → Filled c (Close y)) where
     body_filled : (found : List Stmt) (h : ℕ) (c : Room) → d ⊑ c → (x : Tall Stmt) → Filled c (Rest Loose (BodyFrom found h) x)
     body_filled found h c dc x =
@@ -214,20 +213,29 @@ module _ {B : Type 0} (clause : Bool) (Close : Tall (List Stmt) → Form B) wher
         (e.0, g.1 ++ e.1, λ u iu. record { y = g.0; front = u ++ g.1; back = e.1; from = g.2 u iu; both = sym (append_assoc u g.1 e.1); closes = e.2 })
 
     -- a token that ends the list, or goes on with it, in more room
-    body_far : (found : List Stmt) (h : ℕ) (x : Tall Stmt) (a : Word) (o : Bool) → is (Some a.kind) t.semicolon ≡ o → (is (Some a.kind) t.semicolon || ends_list clause (Some a.kind)) ≡ true
+    body_far : (found : List Stmt) (h : ℕ) (x : Tall Stmt) (a : Word) (o : Bool) → is (Some a.kind) t.semicolon ≡ o → (is (Some a.kind) t.semicolon || ends_list clause (Some a.kind)) ≡ true → (full && begins_clause (Some a.kind)) ≡ false
         → (k : ℕ) × (z : B) × (w : List Word) × (d.0 ≤ k) × Rest Loose (BodyFrom found h) x (k, d.1) z (a ∷ w)
-    body_far found h x a true e test =
+    body_far found h x a true e test few =
         let y : Tall (List Stmt) = (found ++ x.0 ∷ [], max h x.1) in
         let k = d.0 + x.1 in
         let g = close_some y (k, d.1) (omega arith, omega arith) in
         (k, g.0, g.1, omega arith, λ u iu. record { y = y; front = u ++ a ∷ []; back = g.1; from = stmts_end found h (k, d.1) x u (a ∷ []) (iu.0, omega arith) (some_is a.kind t.semicolon (is_is (Some a.kind) t.semicolon e), refl); both = sym (append_assoc u (a ∷ []) g.1); closes = g.2 })
-    body_far found h x a false e test =
+    body_far found h x a false e test few =
         let y : Tall (List Stmt) = (found ++ x.0 ∷ [], max h x.1) in
         let ends : ends_list clause (Some a.kind) ≡ true = or_second (is (Some a.kind) t.semicolon) (ends_list clause (Some a.kind)) e test in
-        let g = close_far y a ends in
+        let g = close_far y a ends few in
         let k = g.0 + x.1 in
         let l = g.3 in
         (k, g.1, g.2, omega arith, λ u iu. record { y = y; front = u ++ []; back = a ∷ g.2; from = stmts_end found h (k, d.1) x u [] (iu.0, omega arith) tt; both = rw append-nil refl; closes = rises y (g.0, d.1) (k, d.1) (omega arith, omega arith) g.1 (a ∷ g.2) g.4 })
+
+    -- a clause that may not come, in room for it
+    body_many : (found : List Stmt) (h : ℕ) (x : Tall Stmt) (a : Word) → full ≡ true → begins_clause (Some a.kind) ≡ true → (b : Room) × (z : B) × (w : List Word) × (d ⊑ b) × Rest Loose (BodyFrom found h) x b z (a ∷ w)
+    body_many found h x a all begins =
+        let y : Tall (List Stmt) = (found ++ x.0 ∷ [], max h x.1) in
+        let g = close_many y a all begins in
+        let b : Room = (g.0.0 + x.1, g.0.1) in
+        let l = g.3 in
+        (b, g.1, g.2, (let l0 = l.0 in omega arith, l.1), λ u iu. record { y = y; front = u ++ []; back = a ∷ g.2; from = stmts_end found h b x u [] (iu.0, omega arith) tt; both = rw append-nil refl; closes = rises y g.0 b (omega arith, omega arith) g.1 (a ∷ g.2) g.4 })
 
     next_good : (M : ℕ) → M ≤ Nc → (found : List Stmt) (h : ℕ) (x : Tall Stmt) → x.1 ≤ d.0 → (again again' : Reader (Tall (List Stmt))) (r : List Word) → (is (kind_of r) t.semicolon || ends_list clause (kind_of r)) ≡ true
         → ((ts : List Word) → Good (M - 1) d K (BodyFrom (found ++ x.0 ∷ []) (max h x.1)) (again >>= close) (again' >>= close') ts)
@@ -246,31 +254,35 @@ module _ {B : Type 0} (clause : Bool) (Close : Tall (List Stmt) → Form B) wher
         (λ other. weaker (M - 1) d K (BodyFrom (found ++ x.0 ∷ []) (max h x.1)) _ _ _ _ _ (λ b db z w a v iv u iu. rw iv.1 (record { y = a.y; front = u ++ iv.0 ∷ a.front; back = a.back; from = stmts_more found h b x a.y u a.front iv.0 (iu.0, let l = db.0 in omega arith) iv.2 a.from; both = rw (append_assoc, a.both) refl; closes = a.closes })) (more r2))))
         (λ other. weaker M d K (Close y) _ _ _ _ _ (λ b db z w c u iu. record { y = y; front = u ++ []; back = w; from = stmts_end found h b x u [] (iu.0, let l = db.0 in omega arith) tt; both = rw append-nil refl; closes = c }) (fewer Nc M d K _ _ _ _ _ le (close_good y r (or_second (is (kind_of r) t.semicolon) (ends_list clause (kind_of r)) other test)))))
 
-    behind : (m c : ℕ) (u : Reader (Tall Stmt)) → List Stmt → ℕ → Reader (Tall (List Stmt)) → (Tall (List Stmt) → Reader B) → Tall Stmt → Reader B
-    behind m c u found h again close x = peek >>= λ kind. if is kind t.semicolon || ends_list clause kind then limited c x.1 (next_from m c u clause (found ++ x.0 ∷ []) (max h x.1) again >>= close) else refuse
+    behind : (m c : ℕ) (u : Reader (Tall Stmt)) → Bool → List Stmt → ℕ → Reader (Tall (List Stmt)) → (Tall (List Stmt) → Reader B) → Tall Stmt → Reader B
+    behind m c u full found h again close x = peek >>= λ kind. if is kind t.semicolon || ends_list clause kind then (peek >>= λ kind. if full && begins_clause kind then fail TooMany else limited c x.1 (next_from m c u clause (found ++ x.0 ∷ []) (max h x.1) again >>= close)) else refuse
 
     behind_good : (M : ℕ) → M ≤ Nc → (found : List Stmt) (h : ℕ) (x : Tall Stmt) (again again' : Reader (Tall (List Stmt))) (r : List Word)
         → ((ts : List Word) → Good (M - 1) d K (BodyFrom (found ++ x.0 ∷ []) (max h x.1)) (again >>= close) (again' >>= close') ts)
-        → Good M d K (Rest Loose (BodyFrom found h) x) (behind n d.0 st found h again close x) (behind n' d'.0 st' found h again' close' x) r
+        → Good M d K (Rest Loose (BodyFrom found h) x) (behind n d.0 st full found h again close x) (behind n' d'.0 st' full' found h again' close' x) r
     unfolding behind
     behind_good M le found h x again again' r more = by_test M d K _ (λ kind. is kind t.semicolon || ends_list clause kind) _ _ _ _ r
-        (λ test. good_far M K _ d d' x.1 _ _ r led deep (some_kind_of r clause test) (λ c dc. body_filled found h c dc x)
-        (λ a ea. let same' : (is (Some a.kind) t.semicolon || ends_list clause (Some a.kind)) ≡ true = ap (λ (o : Option TokenKind). is o t.semicolon || ends_list clause o) ea ∙ test in
-        body_far found h x a (is (Some a.kind) t.semicolon) refl same')
-        (λ low. next_good M le found h x low again again' r test more))
+        (λ test. good_full M K _ d full full' flags _ _ r (λ c dc. body_filled found h c dc x)
+        (λ all a ea begins. body_many found h x a all begins)
+        (λ few. good_far M K _ d d' x.1 _ _ r led deep (some_kind_of r clause test) (λ c dc. body_filled found h c dc x)
+        (λ a ea.
+        let same' : (is (Some a.kind) t.semicolon || ends_list clause (Some a.kind)) ≡ true = ap (λ (o : Option TokenKind). is o t.semicolon || ends_list clause o) ea ∙ test in
+        let few' : (full && begins_clause (Some a.kind)) ≡ false = ap (λ (o : Option TokenKind). full && begins_clause o) ea ∙ few in
+        body_far found h x a (is (Some a.kind) t.semicolon) refl same' few')
+        (λ low. next_good M le found h x low again again' r test more)))
         (λ other. good_refuse M d K _ r (λ c dc. body_filled found h c dc x))
 
-    step : (m c : ℕ) (u : Reader (Tall Stmt)) (k : ℕ) → List Stmt → ℕ → (Tall (List Stmt) → Reader B) → Tall Stmt → Reader B
-    step m c u k found h close x = behind m c u found h (stmts_from m c u clause k (found ++ x.0 ∷ []) (max h x.1)) close x
+    step : (m c : ℕ) (u : Reader (Tall Stmt)) (full : Bool) (k : ℕ) → List Stmt → ℕ → (Tall (List Stmt) → Reader B) → Tall Stmt → Reader B
+    step m c u full k found h close x = behind m c u full found h (stmts_from m c u clause full k (found ++ x.0 ∷ []) (max h x.1)) close x
 
-    step_eq : (m c : ℕ) (u : Reader (Tall Stmt)) (k : ℕ) (found : List Stmt) (h : ℕ) (close : Tall (List Stmt) → Reader B) (ts : List Word) → (stmts_from m c u clause (suc k) found h >>= close) ts ≡ (u >>= step m c u k found h close) ts
+    step_eq : (m c : ℕ) (u : Reader (Tall Stmt)) (full : Bool) (k : ℕ) (found : List Stmt) (h : ℕ) (close : Tall (List Stmt) → Reader B) (ts : List Word) → (stmts_from m c u clause full (suc k) found h >>= close) ts ≡ (u >>= step m c u full k found h close) ts
     unfolding stmts_from step behind
-    step_eq m c u k found h close ts =
-        let g : Tall Stmt → Reader (Tall (List Stmt)) = λ x. peek >>= (λ kind. if is kind t.semicolon || ends_list clause kind then limited c x.1 (next_from m c u clause (found ++ x.0 ∷ []) (max h x.1) (stmts_from m c u clause k (found ++ x.0 ∷ []) (max h x.1))) else refuse) in
+    step_eq m c u full k found h close ts =
+        let g : Tall Stmt → Reader (Tall (List Stmt)) = λ x. peek >>= (λ kind. if is kind t.semicolon || ends_list clause kind then (peek >>= λ kind. if full && begins_clause kind then fail TooMany else limited c x.1 (next_from m c u clause (found ++ x.0 ∷ []) (max h x.1) (stmts_from m c u clause full k (found ++ x.0 ∷ []) (max h x.1)))) else refuse) in
         bind_assoc (u ts).0 (u ts).1 g close
-        ∙ go_on_eq (u ts).0 (u ts).1 (λ x. g x >>= close) (step m c u k found h close) (λ x r. behind_eq (is (kind_of r) t.semicolon || ends_list clause (kind_of r)) c x.1 (next_from m c u clause (found ++ x.0 ∷ []) (max h x.1) (stmts_from m c u clause k (found ++ x.0 ∷ []) (max h x.1))) close r)
+        ∙ go_on_eq (u ts).0 (u ts).1 (λ x. g x >>= close) (step m c u full k found h close) (λ x r. behind_eq (is (kind_of r) t.semicolon || ends_list clause (kind_of r)) full c x.1 (next_from m c u clause (found ++ x.0 ∷ []) (max h x.1) (stmts_from m c u clause full k (found ++ x.0 ∷ []) (max h x.1))) close r)
 
-    none_left : (k' M : ℕ) → M ≤ 0 → (found : List Stmt) (h : ℕ) (ts : List Word) → Good M d K (BodyFrom found h) (stmts_from n d.0 st clause zero found h >>= close) (stmts_from n' d'.0 st' clause k' found h >>= close') ts
+    none_left : (k' M : ℕ) → M ≤ 0 → (found : List Stmt) (h : ℕ) (ts : List Word) → Good M d K (BodyFrom found h) (stmts_from n d.0 st clause full zero found h >>= close) (stmts_from n' d'.0 st' clause full' k' found h >>= close') ts
     unfolding stmts_from
     none_left k' M mk found h ts = fewer 0 M d K _ _ _ _ _ mk (good_exhausted d K (BodyFrom found h) _ ts never (λ c dc.
         let l = (stmt_good ts).filled c dc in
@@ -278,103 +290,32 @@ module _ {B : Type 0} (clause : Bool) (Close : Tall (List Stmt) → Form B) wher
         (g.0, l.1 ++ g.1, g.2 l.1 l.2)))
 
     stmts_then_good : (k k' M : ℕ) → M ≤ k → k ≤ n → k ≤ k' → M ≤ Nc → (found : List Stmt) (h : ℕ) (ts : List Word)
-        → Good M d K (BodyFrom found h) (stmts_from n d.0 st clause k found h >>= close) (stmts_from n' d'.0 st' clause k' found h >>= close') ts
+        → Good M d K (BodyFrom found h) (stmts_from n d.0 st clause full k found h >>= close) (stmts_from n' d'.0 st' clause full' k' found h >>= close') ts
     unfolding step
     stmts_then_good zero k' M mk kn kk mc found h ts = none_left k' M mk found h ts
     stmts_then_good (suc k) zero M mk kn kk mc found h ts = absurd (omega arith)
     stmts_then_good (suc k) (suc k') M mk kn kk mc found h ts =
         good_eq M d K (BodyFrom found h)
-        (st >>= step n d.0 st k found h close) (stmts_from n d.0 st clause (suc k) found h >>= close)
-        (st' >>= step n' d'.0 st' k' found h close') (stmts_from n' d'.0 st' clause (suc k') found h >>= close') ts
-        (step_eq n d.0 st k found h close ts) (λ r. step_eq n' d'.0 st' k' found h close' r)
+        (st >>= step n d.0 st full k found h close) (stmts_from n d.0 st clause full (suc k) found h >>= close)
+        (st' >>= step n' d'.0 st' full' k' found h close') (stmts_from n' d'.0 st' clause full' (suc k') found h >>= close') ts
+        (step_eq n d.0 st full k found h close ts) (λ r. step_eq n' d'.0 st' full' k' found h close' r)
         (seq M d K Loose (BodyFrom found h) st' _ _ ts _ _ loose_rises (fewer n M d K _ _ _ _ _ (omega arith) (stmt_good ts)) (λ x _ r.
-        behind_good M mc found h x (stmts_from n d.0 st clause k (found ++ x.0 ∷ []) (max h x.1)) (stmts_from n' d'.0 st' clause k' (found ++ x.0 ∷ []) (max h x.1)) r
+        behind_good M mc found h x (stmts_from n d.0 st clause full k (found ++ x.0 ∷ []) (max h x.1)) (stmts_from n' d'.0 st' clause full' k' (found ++ x.0 ∷ []) (max h x.1)) r
         (λ ts'. stmts_then_good k k' (M - 1) (omega arith) (omega arith) (omega arith) (omega arith) (found ++ x.0 ∷ []) (max h x.1) ts')))
-
--- ---- what a statement begins with
-
--- a statement of some height begins with the token
-abbrev pub StartsStmt : Word → Type 0
-StartsStmt a = (x : Tall Stmt) × (w : List Word) × ((m : ℕ) → IsStmt source m x.1 x.0 (a ∷ w))
-
-abbrev pub Starts : TokenKind → Type 0
-Starts k = (a : Word) → a.kind ≡ k → StartsStmt a
-
-pub some_block : Block
-some_block = block_node (a_word t.left_brace).span.start (a_word t.right_brace).span.start []
-
-pub some_block_is : (m : ℕ) → IsBlock source m 1 some_block (a_word t.right_brace).span.end (a_word t.left_brace ∷ a_word t.right_brace ∷ [])
-unfolding some_block
-some_block_is m = empty_block (a_word t.left_brace) refl m
-
-pub started : AllByRecursion Starts starts
-started = (
-  λ a k. ((stmt_node a.span.start a.span.end (statement.Break None), 1), [], λ m. breaks a k),
-  (
-    λ a k. let l = a_word t.left_parenthesis in let r = a_word t.right_parenthesis in ((stmt_node a.span.start r.span.end (statement.Const []), 1), l ∷ r ∷ [], λ m. constants a 0 r.span.end [] (l ∷ r ∷ []) k (no_group l r refl refl)),
-    (
-      λ a k. ((stmt_node a.span.start a.span.end (statement.Continue None), 1), [], λ m. continues a k),
-      (
-        λ a k. ((stmt_node a.span.start (expr_end an_expr) (statement.Defer an_expr), 2), a_word kind.Name ∷ [], λ m. defers a 7 1 an_expr (a_word kind.Name ∷ []) k is_an_expr),
-        (
-          λ a k. ((stmt_node a.span.start a.span.end statement.Fallthrough, 1), [], λ m. falls a k),
-          (
-            λ a k. ((stmt_node a.span.start (a_word t.right_brace).span.end (statement.For None None None some_block), max 0 1 + 1), a_word t.left_brace ∷ a_word t.right_brace ∷ [], λ m. breakable (max 0 1 + 1) (stmt_node a.span.start (a_word t.right_brace).span.end (statement.For None None None some_block)) (a ∷ a_word t.left_brace ∷ a_word t.right_brace ∷ []) (for_test a 0 1 (a_word t.right_brace).span.end None some_block [] (a_word t.left_brace ∷ a_word t.right_brace ∷ []) k no_expr (some_block_is m))),
-            (
-              λ a k. ((stmt_node a.span.start (expr_end an_expr) (statement.Go an_expr), 2), a_word kind.Name ∷ [], λ m. goes a 7 1 an_expr (a_word kind.Name ∷ []) k is_an_expr),
-              (
-                λ a k. (
-                  (stmt_node a.span.start (a_word t.right_brace).span.end (statement.If None an_expr some_block None), max (max 0 1) (max 1 0) + 1),
-                  a_word kind.Name ∷ a_word t.left_brace ∷ a_word t.right_brace ∷ [],
-                  λ m. branch (max (max 0 1) (max 1 0) + 1) (stmt_node a.span.start (a_word t.right_brace).span.end (statement.If None an_expr some_block None)) (a ∷ a_word kind.Name ∷ a_word t.left_brace ∷ a_word t.right_brace ∷ [])
-                      (if_ a 7 0 1 1 0 (a_word t.right_brace).span.end (a_word t.right_brace).span.end None an_expr some_block None [] (a_word kind.Name ∷ []) (a_word t.left_brace ∷ a_word t.right_brace ∷ []) [] k no_first is_an_expr (some_block_is m) (no_else (a_word t.right_brace).span.end)),
-                ),
-                (
-                  λ a k. ((stmt_node a.span.start a.span.end (statement.Return []), 1), [], λ m. return_none a k),
-                  (
-                    λ a k. let l = a_word t.left_brace in let r = a_word t.right_brace in ((stmt_node a.span.start r.span.end (statement.Select l.span.start []), 1), l ∷ r ∷ [], λ m. breakable 1 (stmt_node a.span.start r.span.end (statement.Select l.span.start [])) (a ∷ l ∷ r ∷ []) (select a l r 0 [] [] k refl no_comms (omega arith) refl)),
-                    (
-                      λ a k. let l = a_word t.left_brace in let r = a_word t.right_brace in ((stmt_node a.span.start r.span.end (statement.Switch None None l.span.start []), max (max 0 0) 0 + 1), l ∷ r ∷ [], λ m. breakable (max (max 0 0) 0 + 1) (stmt_node a.span.start r.span.end (statement.Switch None None l.span.start [])) (a ∷ l ∷ r ∷ []) (switch a l r 0 0 0 None None [] [] [] [] k no_first no_expr refl no_cases refl)),
-                      (
-                        λ a k. let l = a_word t.left_parenthesis in let r = a_word t.right_parenthesis in ((stmt_node a.span.start r.span.end (statement.Var []), 1), l ∷ r ∷ [], λ m. variables a 0 r.span.end [] (l ∷ r ∷ []) k (no_group l r refl refl)),
-                        (
-                          λ a k. let r = a_word t.right_brace in let b = block_node a.span.start r.span.start [] in ((stmt_node (block_left b) r.span.end (statement.Block b), 2), r ∷ [], λ m. nested 1 r.span.end b (a ∷ r ∷ []) (empty_block a k m)),
-                          tt,
-                        ),
-                      ),
-                    ),
-                  ),
-                ),
-              ),
-            ),
-          ),
-        ),
-      ),
-    ),
-  ),
-)
-
-pub started_by : (ks : List TokenKind) → AllByRecursion Starts ks → (a : Word) → is_one_of ks (Some a.kind) ≡ true → StartsStmt a
-started_by [] all a e = absurd cc
-started_by (k ∷ ks) all a e = pick (is (Some a.kind) k) refl e (λ f'. started_by ks all.1 a f')
-  where
-    pick : (b : Bool) → is (Some a.kind) k ≡ b → (b || is_one_of ks (Some a.kind)) ≡ true → (is_one_of ks (Some a.kind) ≡ true → StartsStmt a) → StartsStmt a
-    pick true y f' more = all.0 a (some_is a.kind k (is_is (Some a.kind) k y))
-    pick false y f' more = more f'
 
 -- ---- a list, and what closes it
 
-list_eq : {B : Type 0} (n c : ℕ) (u : Reader (Tall Stmt)) (clause : Bool) (close : Tall (List Stmt) → Reader B) (ts : List Word)
-    → (list n c u clause >>= close) ts ≡ (peek >>= λ kind. if ends_list clause kind then close ([], 0) else (peek >>= λ kind. if begins_stmt kind then limited c 1 (stmts_from n c u clause n [] 0 >>= close) else refuse)) ts
+list_eq : {B : Type 0} (n c : ℕ) (u : Reader (Tall Stmt)) (clause full : Bool) (close : Tall (List Stmt) → Reader B) (ts : List Word)
+    → (list n c u clause full >>= close) ts ≡ (peek >>= λ kind. if ends_list clause kind then close ([], 0) else (peek >>= λ kind. if begins_stmt kind then limited c 1 (stmts_from n c u clause full n [] 0 >>= close) else refuse)) ts
 unfolding list
-list_eq n c u clause close ts = ends (ends_list clause (kind_of ts))
+list_eq n c u clause full close ts = ends (ends_list clause (kind_of ts))
   where
-    starts_at : (b : Bool) → ((cond b (limited c 1 (stmts_from n c u clause n [] 0)) refuse) >>= close) ts ≡ (cond b (limited c 1 (stmts_from n c u clause n [] 0 >>= close)) refuse) ts
-    starts_at true = limited_bind (nat_lt c 1) (stmts_from n c u clause n [] 0) close ts
+    starts_at : (b : Bool) → ((cond b (limited c 1 (stmts_from n c u clause full n [] 0)) refuse) >>= close) ts ≡ (cond b (limited c 1 (stmts_from n c u clause full n [] 0 >>= close)) refuse) ts
+    starts_at true = limited_bind (nat_lt c 1) (stmts_from n c u clause full n [] 0) close ts
     starts_at false = refl
 
-    ends : (b : Bool) → ((cond b (pure ([], 0)) (peek >>= λ kind. if begins_stmt kind then limited c 1 (stmts_from n c u clause n [] 0) else refuse)) >>= close) ts
-        ≡ (cond b (close ([], 0)) (peek >>= λ kind. if begins_stmt kind then limited c 1 (stmts_from n c u clause n [] 0 >>= close) else refuse)) ts
+    ends : (b : Bool) → ((cond b (pure ([], 0)) (peek >>= λ kind. if begins_stmt kind then limited c 1 (stmts_from n c u clause full n [] 0) else refuse)) >>= close) ts
+        ≡ (cond b (close ([], 0)) (peek >>= λ kind. if begins_stmt kind then limited c 1 (stmts_from n c u clause full n [] 0 >>= close) else refuse)) ts
     ends true = refl
     ends false = starts_at (begins_stmt (kind_of ts))
 
@@ -393,9 +334,10 @@ module _ {B : Type 0} (clause : Bool) (Close : Tall (List Stmt) → Form B) wher
 
   module _ (K : Fault → Type 0) (never : K Exhausted → ⊥) (n n' : ℕ) (len : n ≤ n') (d d' : Room) (led : d ⊑ d') (deep : K TooDeep → d.0 ≡ d'.0) (st st' : Reader (Tall Stmt)) (stmt_good : 1 ≤ d.0 → (ts : List Word) → Good n d K Loose st st' ts)
       (started_all : (a : Word) → begins_stmt (Some a.kind) ≡ true → StartsStmt a)
-      (Nc : ℕ) (fewer_turns : Nc ≤ n) (close close' : Tall (List Stmt) → Reader B) (rises : (y : Tall (List Stmt)) → Rises (Close y))
+      (full full' : Bool) (flags : Flags K full full') (Nc : ℕ) (fewer_turns : Nc ≤ n) (close close' : Tall (List Stmt) → Reader B) (rises : (y : Tall (List Stmt)) → Rises (Close y))
       (close_good : (y : Tall (List Stmt)) (r : List Word) → ends_list clause (kind_of r) ≡ true → Good Nc d K (Close y) (close y) (close' y) r)
-      (close_far : (y : Tall (List Stmt)) (a : Word) → ends_list clause (Some a.kind) ≡ true → (k : ℕ) × (z : B) × (w : List Word) × (d.0 ≤ k) × Close y (k, d.1) z (a ∷ w))
+      (close_far : (y : Tall (List Stmt)) (a : Word) → ends_list clause (Some a.kind) ≡ true → (full && begins_clause (Some a.kind)) ≡ false → (k : ℕ) × (z : B) × (w : List Word) × (d.0 ≤ k) × Close y (k, d.1) z (a ∷ w))
+      (close_many : (y : Tall (List Stmt)) (a : Word) → full ≡ true → begins_clause (Some a.kind) ≡ true → (b : Room) × (z : B) × (w : List Word) × (d ⊑ b) × Close y b z (a ∷ w))
       (close_some : (y : Tall (List Stmt)) (c : Room) → d ⊑ c → Filled c (Close y)) where
     empty_body : (c : Room) → d ⊑ c → Filled c BodyOf
     empty_body c dc = let e = close_some ([], 0) c dc in (e.0, e.1, record { y = ([], 0); front = []; back = e.1; from = (no_stmts, omega arith); both = refl; closes = e.2 })
@@ -412,19 +354,19 @@ module _ {B : Type 0} (clause : Bool) (Close : Tall (List Stmt) → Form B) wher
     some_start None b n = absurd cc
     some_start (Some k) b n = cc
 
-    pub list_then_good : (ts : List Word) → Good Nc d K BodyOf (list n d.0 st clause >>= close) (list n' d'.0 st' clause >>= close') ts
+    pub list_then_good : (ts : List Word) → Good Nc d K BodyOf (list n d.0 st clause full >>= close) (list n' d'.0 st' clause full' >>= close') ts
     list_then_good ts =
         good_eq Nc d K BodyOf
-        (peek >>= λ kind. if ends_list clause kind then close ([], 0) else (peek >>= λ kind. if begins_stmt kind then limited d.0 1 (stmts_from n d.0 st clause n [] 0 >>= close) else refuse)) (list n d.0 st clause >>= close)
-        (peek >>= λ kind. if ends_list clause kind then close' ([], 0) else (peek >>= λ kind. if begins_stmt kind then limited d'.0 1 (stmts_from n' d'.0 st' clause n' [] 0 >>= close') else refuse)) (list n' d'.0 st' clause >>= close') ts
-        (list_eq n d.0 st clause close ts) (λ r. list_eq n' d'.0 st' clause close' r)
+        (peek >>= λ kind. if ends_list clause kind then close ([], 0) else (peek >>= λ kind. if begins_stmt kind then limited d.0 1 (stmts_from n d.0 st clause full n [] 0 >>= close) else refuse)) (list n d.0 st clause full >>= close)
+        (peek >>= λ kind. if ends_list clause kind then close' ([], 0) else (peek >>= λ kind. if begins_stmt kind then limited d'.0 1 (stmts_from n' d'.0 st' clause full' n' [] 0 >>= close') else refuse)) (list n' d'.0 st' clause full' >>= close') ts
+        (list_eq n d.0 st clause full close ts) (λ r. list_eq n' d'.0 st' clause full' close' r)
         (by_test Nc d K BodyOf (ends_list clause) _ _ _ _ ts
         (λ over. weaker Nc d K (Close ([], 0)) BodyOf _ _ _ _ (λ b db z w c. record { y = ([], 0); front = []; back = w; from = (no_stmts, omega arith); both = refl; closes = c }) (close_good ([], 0) ts over))
         (λ other. by_test Nc d K BodyOf begins_stmt _ _ _ _ ts
         (λ here. good_far Nc K BodyOf d d' 1 _ _ ts led deep (some_start (kind_of ts) here) empty_body
         (λ a ea. started_body a (started_all a (ap begins_stmt ea ∙ here)))
         (λ some. weaker Nc d K (BodyFrom clause Close [] 0) BodyOf _ _ _ _ (λ b db. body_of b)
-        (stmts_then_good clause Close K never n n' d d' led deep some st st' (stmt_good some) Nc close close' rises close_good close_far close_some n n' Nc fewer_turns (omega arith) len (omega arith) [] 0 ts)))
+        (stmts_then_good clause Close K never n n' d d' led deep some st st' (stmt_good some) full full' flags Nc close close' rises close_good close_far close_many close_some n n' Nc fewer_turns (omega arith) len (omega arith) [] 0 ts)))
         (λ there. good_refuse Nc d K BodyOf ts empty_body)))
 
 -- ---- blocks
@@ -462,7 +404,8 @@ module _ (K : Fault → Type 0) (never : K Exhausted → ⊥) (n n' : ℕ) (len 
   unfolding block_in close_block block_close
   block_in_good ts = expect_then n d K _ t.left_brace span_of _ _ ts (λ left r.
       weaker n d K (BodyOf false (Braces left)) _ _ _ _ _ (λ b db z w a u iu. block_is b left z u w iu a)
-      (list_then_good false (Braces left) K never n n' len d d' led deep st st' stmt_good started_all n (omega arith) (close_block left) (close_block left) (braces_rise left)
+      (list_then_good false (Braces left) K never n n' len d d' led deep st st' stmt_good started_all false false (never_full K) n (omega arith) (close_block left) (close_block left) (braces_rise left)
       (λ y r2 e. close_block_good n d K left y r2)
-      (λ y a e. (d.0, block_close left y a, [], omega arith, (a, refl, ends_block a.kind e, refl)))
+      (λ y a e few. (d.0, block_close left y a, [], omega arith, (a, refl, ends_block a.kind e, refl)))
+      (λ y a all begins. absurd cc)
       (λ y c dc. (block_close left y (a_word t.right_brace), a_word t.right_brace ∷ [], (a_word t.right_brace, refl, refl, refl))) r))

@@ -1,6 +1,6 @@
 -- Statements, read from left to right. The number n bounds the turns of each repetition, m the clauses of a select; d is how
 -- many levels there may be below the statement.
-use Rattle.std.specs.Prelude.{◌||◌, ℕ, zero, suc, ◌+◌, ◌-◌, max, Bool, true, false, if◌then◌else◌, nat_le, List, [], ◌∷◌, ◌++◌, length, Option, Some, None}
+use Rattle.std.specs.Prelude.{◌||◌, ◌&&◌, ℕ, zero, suc, ◌+◌, ◌-◌, max, Bool, true, false, if◌then◌else◌, nat_le, List, [], ◌∷◌, ◌++◌, length, Option, Some, None}
 use Rattle.go_ast.specs.declared.token.TokenKind.{TokenKind}
 use Rattle.go_ast.specs.declared.token.TokenKind.TheVariants as kind
 use Rattle.go_ast.specs.declared.span.Span.{Span}
@@ -157,20 +157,21 @@ module _ (n d : ℕ) (stmt : Reader (Tall Stmt)) where
   unfoldable pub next_from : Bool → List Stmt → ℕ → Reader (Tall (List Stmt)) → Reader (Tall (List Stmt))
   next_from clause found h again = peek >>= if_kind t.semicolon (take_span >> (peek >>= λ kind. if ends_list clause kind then pure (found, h) else again)) (pure (found, h))
 
-  -- a statement that is one level too high is so at what follows it
-  unfoldable pub stmts_from : Bool → ℕ → List Stmt → ℕ → Reader (Tall (List Stmt))
-  stmts_from clause zero found h = fail Exhausted
-  stmts_from clause (suc turns) found h = do
+  -- a statement that is one level too high is so at what follows it; where that begins a clause and no more may come, the number counts
+  unfoldable pub stmts_from : Bool → Bool → ℕ → List Stmt → ℕ → Reader (Tall (List Stmt))
+  stmts_from clause full zero found h = fail Exhausted
+  stmts_from clause full (suc turns) found h = do
     x ← stmt
-    peek >>= λ kind. if is kind t.semicolon || ends_list clause kind then limited d x.1 (next_from clause (found ++ x.0 ∷ []) (max h x.1) (stmts_from clause turns (found ++ x.0 ∷ []) (max h x.1))) else refuse
+    peek >>= λ kind. if is kind t.semicolon || ends_list clause kind then (peek >>= λ kind. if full && begins_clause kind then fail TooMany else limited d x.1 (next_from clause (found ++ x.0 ∷ []) (max h x.1) (stmts_from clause full turns (found ++ x.0 ∷ []) (max h x.1)))) else refuse
 
-  unfoldable pub list : Bool → Reader (Tall (List Stmt))
-  list clause = peek >>= λ kind. if ends_list clause kind then pure ([], 0) else (peek >>= λ kind. if begins_stmt kind then limited d 1 (stmts_from clause n [] 0) else refuse)
+  -- in a block or in a clause, which may be the last that may come
+  unfoldable pub list : Bool → Bool → Reader (Tall (List Stmt))
+  list clause full = peek >>= λ kind. if ends_list clause kind then pure ([], 0) else (peek >>= λ kind. if begins_stmt kind then limited d 1 (stmts_from clause full n [] 0) else refuse)
 
   unfoldable pub block_in : Reader (Tall Braced)
   block_in = do
     left ← expect t.left_brace
-    xs ← list false
+    xs ← list false false
     right ← expect t.right_brace
     pure (record { block = block_node left.start right.start xs.0; end = right.end }, xs.1 + 1)
 
@@ -178,14 +179,14 @@ module _ (n d : ℕ) (stmt : Reader (Tall Stmt)) where
   cases_from zero found h = fail Exhausted
   cases_from (suc turns) found h = peek >>= λ kind. if begins_clause kind then (do
     x ← case_head n d
-    xs ← list true
+    xs ← list true false
     cases_from turns (found ++ case_node x.0.0 x.0.1 xs.0 ∷ []) (max h (max x.1 xs.1))) else pure (found, h)
 
   unfoldable pub comms_from : ℕ → ℕ → List CommClause → ℕ → Reader (Tall (List CommClause))
   comms_from m zero found h = fail Exhausted
   comms_from m (suc turns) found h = peek >>= λ kind. if begins_clause kind then (if nat_le m (length found) then fail TooMany else (do
     x ← comm_head n d
-    xs ← list true
+    xs ← list true (nat_le m (length found + 1))
     comms_from m turns (found ++ comm_node x.0.0 x.0.1 xs.0 ∷ []) (max h (max x.1 xs.1)))) else pure (found, h)
 
 -- ---- if
