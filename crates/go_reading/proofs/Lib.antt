@@ -32,6 +32,7 @@ pub mod BreaksGood
 pub mod LeafGood
 pub mod CommsGood
 pub mod StmtGood
+pub mod SelectGood
 pub mod SimpleRead
 pub mod PlainRead
 pub mod HeadsRead

@@ -30,7 +30,7 @@ use Rattle.go_reading.proofs.IfGood.{IfOf, HiddenOf, short_if, short_if_is, if_i
 use Rattle.go_reading.proofs.LeafGood.{const_stmt_good, var_stmt_good, return_stmt_good, break_stmt_good, continue_stmt_good, fallthrough_stmt_good, go_stmt_good, defer_stmt_good, nested_stmt_good}
 
 -- each token that a statement may begin with begins one
-started_all : (a : Word) → begins_stmt (Some a.kind) ≡ true → StartsStmt a
+pub started_all : (a : Word) → begins_stmt (Some a.kind) ≡ true → StartsStmt a
 unfolding begins_stmt
 started_all a e = go (begins (Some a.kind)) refl e
   where
