@@ -94,7 +94,7 @@ params_read n d _ _ _ (some_params h ps w c i may) le long a b rest ka kb =
 
 -- ---- results
 
-block_kind : (m h : ℕ) (b : Block) (end : ℕ) (w : List Word) → IsBlock source m h b end w → (rest : List Word) → kind_of (w ++ rest) ≡ Some t.left_brace
+pub block_kind : (m h : ℕ) (b : Block) (end : ℕ) (w : List Word) → IsBlock source m h b end w → (rest : List Word) → kind_of (w ++ rest) ≡ Some t.left_brace
 block_kind m _ _ _ _ (braces a b h ss w ka i kb) rest = kind_is a (w ++ b ∷ [] ++ rest) t.left_brace ka
 
 no_type_at : (o : Option TokenKind) → o ≡ Some t.left_brace → begins_type o ≡ false

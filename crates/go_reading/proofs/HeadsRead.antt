@@ -113,7 +113,7 @@ no_header : (n d : ℕ) (rest : List Word) → kind_of rest ≡ Some t.left_brac
 unfolding maybe_header
 no_header n d rest over = rw over refl
 
-simple_tall : (h : ℕ) (x : Stmt) (w : List Word) → IsSimple h x w → 1 ≤ h
+pub simple_tall : (h : ℕ) (x : Stmt) (w : List Word) → IsSimple h x w → 1 ≤ h
 simple_tall _ _ _ (evaluated l' h x w i) = omega arith
 simple_tall _ _ _ (sent' a la lb h h' x y u v i k j) = omega arith
 simple_tall _ _ _ (raised a g u i k) = omega arith

@@ -38,3 +38,10 @@ pub mod PlainRead
 pub mod HeadsRead
 pub mod ForRead
 pub mod CommsRead
+pub mod Stops
+pub mod StmtsRead
+pub mod CasesRead
+pub mod LeafRead
+pub mod BreaksRead
+pub mod IfRead
+pub mod StmtRead
