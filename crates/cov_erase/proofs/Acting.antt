@@ -38,7 +38,7 @@ use Rattle.go_meaning.specs.declared.config.Config.{Config}
 use Rattle.go_meaning.specs.Programs.{Parts, form_at}
 use Rattle.go_meaning.specs.Values.{line_of, first_rune, is_equal}
 use Rattle.go_meaning.specs.Operations.{number, top, on_value, on_flag, on_number, on_text, on_channel, calculated, compared, indexed, a_text, cut_text, measured, made, closed_by, closed, written, output_limit, printed, locked, unlocked, set_number, added, waited, apply}
-use Rattle.go_meaning.specs.Acts.{Slots, assignment, simple_items, part, comm_items, go_on, statement, run, constant, string_limit, pushed, variable, eval, loop, test, next, advance, each, branch, enter, cases, default_of, match_case, match, compare_case, has, assign, act_of}
+use Rattle.go_meaning.specs.Acts.{Slots, assignment, simple_items, part, comm_items, go_on, statement, run, constant, string_limit, pushed, variable, eval, loop, test, next, advance, each, branch, enter, cases, default_of, match_case, matched, compare_case, has, assign, act_of}
 use Rattle.go_meaning.specs.Acts as acts
 use Rattle.go_meaning.specs.Erasing.{erase_program, place_of, erase_item, erase_config}
 use Rattle.cov_erase.proofs.Places.{IsPlain, form_erased, next_place}
@@ -358,8 +358,8 @@ module _ (Q : Parts) where
   sim_match_case n i k cs None = ap (λ is. act.Replaces 1 is) (sym (kept_enter (default_of cs)))
   sim_match_case n i k cs (Some p) = refl
 
-  sim_match : (n i k : ℕ) (o : Option NodeForm) → match n (place_of Q n i) k o ≡ erase_act (match n i k o)
-  unfolding erase_act match
+  sim_match : (n i k : ℕ) (o : Option NodeForm) → matched n (place_of Q n i) k o ≡ erase_act (matched n i k o)
+  unfolding erase_act matched
   sim_match n i k (Some (node.Switch first e cs)) = sim_match_case n i k cs _
   sim_match n i k o = refl
 
@@ -399,7 +399,7 @@ module _ (Q : Parts) where
   sim_act (Next n i) c slots st h = at_place (next n (place_of Q n i)) _ n i h (sim_next n i _)
   sim_act (Each n i) c slots st h =
       at_place (λ o. on_number (top 0 st) (λ at. on_text (top 1 st) (each n (place_of Q n i) o at))) _ n i h (sim_number _ _ _ (λ at. sim_text _ _ _ (sim_each n i _ at)))
-  sim_act (Match n i k) c slots st h = at_place (λ o. on_value (top 0 st) (λ tag. match n (place_of Q n i) k o)) _ n i h (sim_value _ _ _ (λ tag. sim_match n i k _))
+  sim_act (Match n i k) c slots st h = at_place (λ o. on_value (top 0 st) (λ tag. matched n (place_of Q n i) k o)) _ n i h (sim_value _ _ _ (λ tag. sim_match n i k _))
   sim_act (Compare n i k) c slots st h =
       at_place (λ o. on_value (top 0 st) (λ v. on_value (top 1 st) (λ tag. acts.compare n (place_of Q n i) k o (is_equal v tag)))) _ n i h (sim_value _ _ _ (λ v. sim_value _ _ _ (λ tag. sim_compare n i k _ _)))
   sim_act Leave c slots st h = refl

@@ -39,7 +39,7 @@ use Rattle.go_meaning.specs.declared.config.Config.{Config}
 use Rattle.go_meaning.specs.Programs.{Parts, list_at, form_at}
 use Rattle.go_meaning.specs.Values.{first_rune, line_of}
 use Rattle.go_meaning.specs.Operations.{number, on_value, on_flag, on_number, on_text, on_channel, calculated, compared, indexed, a_text, cut_text, measured, made, closed_by, closed, written, output_limit, printed, locked, unlocked, set_number, added, waited, apply}
-use Rattle.go_meaning.specs.Acts.{Slots, assignment, simple_items, part, comm_items, go_on, statement, run, constant, string_limit, pushed, variable, eval, loop, test, next, advance, each, branch, enter, cases, default_of, match_case, match, compare_case, has, assign, act_of}
+use Rattle.go_meaning.specs.Acts.{Slots, assignment, simple_items, part, comm_items, go_on, statement, run, constant, string_limit, pushed, variable, eval, loop, test, next, advance, each, branch, enter, cases, default_of, match_case, matched, compare_case, has, assign, act_of}
 use Rattle.go_meaning.specs.Acts as acts
 use Rattle.cov_erase.proofs.Places.{IsPlain}
 use Rattle.cov_erase.proofs.Cover.{IsFresh, IsOther}
@@ -393,8 +393,8 @@ module _ (Q : Parts) where
   puts_match_case n i k cs None h = settled_enter (default_of cs)
   puts_match_case n i k cs (Some p) h = (tt, (h, tt))
 
-  puts_match : (n i k : ℕ) (o : Option NodeForm) → IsPlain (form_at Q n i) → Puts (match n i k o)
-  unfolding Puts match
+  puts_match : (n i k : ℕ) (o : Option NodeForm) → IsPlain (form_at Q n i) → Puts (matched n i k o)
+  unfolding Puts matched
   puts_match n i k (Some (node.Switch first e cs)) h = puts_match_case n i k cs _ h
   puts_match n i k o h = tt
 

@@ -39,3 +39,17 @@ fn texts_are_their_bytes(rt: HostRuntime) -> Result<(), NoMemory> {
     assert_eq!(rt; SourceKind::from(LexKind::BadRune), SourceKind::BadRune);
     Ok(())
 }
+
+#[test]
+fn texts_grow(rt: HostRuntime) -> Result<(), Fail> {
+    let mut text = Text::new(rt.alloc());
+    assert_eq!(rt; text.bytes(), b"".as_slice());
+    text.append(b"ab")?;
+    text.append(b"")?;
+    text.append(b"c")?;
+    assert_eq!(rt; text.bytes(), b"abc".as_slice());
+    let mut bytes = Vec::new(rt.alloc());
+    bytes.push(b'x')?;
+    assert_eq!(rt; Text::from_vec(bytes).bytes(), b"x".as_slice());
+    Ok(())
+}

@@ -1,5 +1,5 @@
 //! Bytes that contracts see as a list.
-ghost use Rattle.std.specs.Prelude.{◌≡◌, IfOk};
+ghost use Rattle.std.specs.Prelude.{◌≡◌, [], ◌++◌, IfOk, OnOk};
 ghost use Rattle.std.proofs.Common.{rules};
 ghost use Rattle.std.specs.Cmp.{partial_order_from_own_ties};
 ghost use Rattle.std.specs.Cmp.Rules.{comparing};
@@ -29,6 +29,22 @@ impl Model for Text {
 }
 
 impl Text {
+    /// No bytes.
+    pub fn new(alloc: Global) -> Text
+        ensures { result ≡ [] }
+    {
+        Text {
+            held: Vec::new(alloc),
+        }
+    }
+
+    /// The text of the bytes of a `Vec`. It takes no memory.
+    pub fn from_vec(bytes: Vec<u8>) -> Text
+        ensures { result ≡ bytes.items }
+    {
+        Text { held: bytes }
+    }
+
     /// The text of these bytes.
     pub fn of(alloc: Global, bytes: &[u8]) -> Result<Text, NoMemory>
         ensures { IfOk result (λ text. text ≡ bytes.now) }
@@ -43,6 +59,15 @@ impl Text {
         ensures { result.now ≡ self.now }
     {
         &self.held
+    }
+
+    /// Adds bytes at the end. An `Err` changes nothing.
+    pub fn append(&mut self, more: &[u8]) -> Result<(), NoMemory>
+        ensures ok { OnOk result (self.new ≡ self.old ++ more.now) }
+        ensures err { OnErr result (self.new ≡ self.old) }
+    {
+        self.held.extend_from_slice(more)?;
+        Ok(())
     }
 }
 

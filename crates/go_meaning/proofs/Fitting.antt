@@ -31,7 +31,7 @@ use Rattle.go_meaning.specs.declared.config.Config.{Config}
 use Rattle.go_meaning.specs.Programs.{Parts, form_at}
 use Rattle.go_meaning.specs.Values.{first_rune, line_of}
 use Rattle.go_meaning.specs.Operations.{top, on_value, on_flag, on_number, on_text, on_channel, calculated, compared, indexed, a_text, cut_text, measured, made, closed_by, closed, written, output_limit, printed, locked, unlocked, set_number, added, waited, apply}
-use Rattle.go_meaning.specs.Acts.{Slots, statement, run, constant, string_limit, pushed, variable, eval, loop, test, next, advance, each, branch, match_case, match, compare_case, has, assign, act_of, default_of, enter}
+use Rattle.go_meaning.specs.Acts.{Slots, statement, run, constant, string_limit, pushed, variable, eval, loop, test, next, advance, each, branch, match_case, matched, compare_case, has, assign, act_of, default_of, enter}
 use Rattle.go_meaning.specs.Acts as acts
 use Rattle.go_meaning.specs.Fitting.{IsFitting, ActsFit}
 
@@ -297,8 +297,8 @@ module _ (c : Config) (st : List Value) where
   fits_match_case n i k cs None h = h
   fits_match_case n i k cs (Some p) h = none
 
-  fits_match : (n i k : ℕ) (o : Option NodeForm) → 1 ≤ length st → Fits (match n i k o)
-  unfolding match IsFitting
+  fits_match : (n i k : ℕ) (o : Option NodeForm) → 1 ≤ length st → Fits (matched n i k o)
+  unfolding matched IsFitting
   fits_match n i k (Some (node.Switch first e cs)) h = fits_match_case n i k cs _ h
   fits_match n i k o h = tt
 

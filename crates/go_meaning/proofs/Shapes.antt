@@ -21,7 +21,7 @@ use Rattle.go_meaning.specs.declared.event.Event.TheVariants.{Step, Count}
 use Rattle.go_meaning.specs.Programs.{Parts, list_at, form_of, form_at}
 use Rattle.go_meaning.specs.Values.{is_equal}
 use Rattle.go_meaning.specs.Operations.{top, on_value, on_flag, on_number, on_text}
-use Rattle.go_meaning.specs.Acts.{Slots, run, loop, test, next, each, match, act_of}
+use Rattle.go_meaning.specs.Acts.{Slots, run, loop, test, next, each, matched, act_of}
 use Rattle.go_meaning.specs.Acts as acts
 use Rattle.go_meaning.specs.Moves.{Move, put}
 use Rattle.go_meaning.specs.Channels.{Side, Sides, pull_side, pick_sides, item_sides, control_sides, frame_sides, sides_of, side_at, partner_sides, listed, exchange, by_itself, has_partner, is_ready, lone, Defaults, Neither, Offers, Wants}
@@ -57,8 +57,8 @@ each_shape n i None at s = refl
 each_shape n i (Some (node.Block l b)) at s = refl
 each_shape n i (Some form) at s = refl
 
-match_shape : (n i k : ℕ) (o : Option NodeForm) → match n i k (option_map shape_of_form o) ≡ match n i k o
-unfolding match
+match_shape : (n i k : ℕ) (o : Option NodeForm) → matched n i k (option_map shape_of_form o) ≡ matched n i k o
+unfolding matched
 match_shape n i k None = refl
 match_shape n i k (Some (node.Block l b)) = refl
 match_shape n i k (Some form) = refl
@@ -114,7 +114,7 @@ module _ (P : Parts) where
   act_shape c (Each n i) slots st =
       ap (λ o. on_number (top 0 st) (λ at. on_text (top 1 st) (each n i o at))) (form_shape n i)
       ∙ ap (on_number (top 0 st)) (fun_ext (λ at. ap (on_text (top 1 st)) (fun_ext (λ s. each_shape n i (form_at P n i) at s))))
-  act_shape c (Match n i k) slots st = ap (λ o. on_value (top 0 st) (λ tag. match n i k o)) (form_shape n i) ∙ ap (λ a. on_value (top 0 st) (λ tag. a)) (match_shape n i k (form_at P n i))
+  act_shape c (Match n i k) slots st = ap (λ o. on_value (top 0 st) (λ tag. matched n i k o)) (form_shape n i) ∙ ap (λ a. on_value (top 0 st) (λ tag. a)) (match_shape n i k (form_at P n i))
   act_shape c (Compare n i k) slots st =
       ap (λ o. on_value (top 0 st) (λ v. on_value (top 1 st) (λ tag. acts.compare n i k o (is_equal v tag)))) (form_shape n i)
       ∙ ap (on_value (top 0 st)) (fun_ext (λ v. ap (on_value (top 1 st)) (fun_ext (λ tag. compare_shape n i k (form_at P n i) (is_equal v tag)))))

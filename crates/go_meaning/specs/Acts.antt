@@ -169,9 +169,9 @@ abbrev pub match_case : ℕ → ℕ → ℕ → List CaseClause → Option (Expr
 match_case n i k cs None = act.Replaces 1 (enter (default_of cs))
 match_case n i k cs (Some p) = act.Replaces 0 (Eval p.0 ∷ Compare n i k ∷ [])
 
-unfoldable pub match : ℕ → ℕ → ℕ → Option NodeForm → Act
-match n i k (Some (node.Switch first e cs)) = match_case n i k cs (slice_get (cases cs) k)
-match n i k o = act.Stuck
+unfoldable pub matched : ℕ → ℕ → ℕ → Option NodeForm → Act
+matched n i k (Some (node.Switch first e cs)) = match_case n i k cs (slice_get (cases cs) k)
+matched n i k o = act.Stuck
 
 abbrev pub compare_case : ℕ → ℕ → ℕ → Bool → Option (Expr × ℕ) → Act
 compare_case n i k true (Some p) = act.Replaces 2 (enter (Some p.1))
@@ -206,7 +206,7 @@ act_of P c (Loop n i) slots st = loop n i (form_at P n i)
 act_of P c (Test n i) slots st = on_flag (top 0 st) (test n i (form_at P n i))
 act_of P c (Next n i) slots st = next n i (form_at P n i)
 act_of P c (Each n i) slots st = on_number (top 0 st) (λ at. on_text (top 1 st) (each n i (form_at P n i) at))
-act_of P c (Match n i k) slots st = on_value (top 0 st) (λ tag. match n i k (form_at P n i))
+act_of P c (Match n i k) slots st = on_value (top 0 st) (λ tag. matched n i k (form_at P n i))
 act_of P c (Compare n i k) slots st = on_value (top 0 st) (λ v. on_value (top 1 st) (λ tag. compare n i k (form_at P n i) (is_equal v tag)))
 act_of P c Leave slots st = act.Replaces 0 []
 act_of P c (Spawn f) slots st = act.Spawns f

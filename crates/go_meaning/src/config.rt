@@ -1,6 +1,7 @@
 //! Configurations.
 use crate::event::End;
 use crate::item::Item;
+use crate::row::Row;
 use crate::stack::Stack;
 use crate::value::{Channel, Value};
 use go_ast::Text;
@@ -49,13 +50,13 @@ pub struct Goroutine {
 pub struct Config {
     /// The package variables, without mutexes and wait groups.
     pub globals: Items<Value>,
-    pub channels: Items<Channel>,
+    pub channels: Row<Channel>,
     /// Which mutexes are locked.
     pub mutexes: Items<bool>,
     /// The numbers of the wait groups.
     pub groups: Items<u32>,
     pub output: Text,
     /// Goroutine 1 first.
-    pub goroutines: Items<Goroutine>,
+    pub goroutines: Row<Goroutine>,
     pub end: Option<End>,
 }

@@ -10,6 +10,8 @@ mod item;
 pub mod laws;
 mod node;
 mod program;
+mod queue;
+mod row;
 mod stack;
 #[cfg(test)]
 mod tests;
@@ -22,5 +24,7 @@ pub use expr::{Expr, Op, Relation, Target, Variable};
 pub use item::Item;
 pub use node::{Assignment, CaseClause, Comm, CommClause, Deferral, Node, NodeForm, Simple};
 pub use program::{Function, Global, Program, ProgramPackage};
+pub use queue::Queue;
+pub use row::Row;
 pub use stack::Stack;
 pub use value::{Channel, Value};

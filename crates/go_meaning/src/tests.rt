@@ -1,6 +1,6 @@
 //! Stacks, ends and laws by hand.
 use crate::laws::{acts_fit, covering, one_serial_history, shapes_run_alike, standing};
-use crate::{End, Stack};
+use crate::{End, Queue, Row, Stack};
 use go_ast::Text;
 use std::test::Fail;
 
@@ -26,6 +26,33 @@ fn stacks(rt: HostRuntime) -> Result<(), Fail> {
     stack.cut(1);
     assert_eq!(rt; stack.pop(), None);
     stack.clear();
+    Ok(())
+}
+
+#[test]
+fn rows(rt: HostRuntime) -> Result<(), Fail> {
+    let mut row = Row::new(rt.alloc());
+    row.push(1u64)?;
+    row.push(2)?;
+    assert_eq!(rt; row.replace(0, 3), 1);
+    assert_eq!(rt; row.as_slice(), [3, 2].as_slice());
+    assert_eq!(rt; row.get(1), Some(&2));
+    assert_eq!(rt; row.get(2), None);
+    assert_eq!(rt; row.len(), 2);
+    Ok(())
+}
+
+#[test]
+fn queues(rt: HostRuntime) -> Result<(), Fail> {
+    let mut queue = Queue::new(rt.alloc());
+    queue.push(1u64)?;
+    queue.push(2)?;
+    assert_eq!(rt; queue.len(), 2);
+    assert_eq!(rt; queue.pop(), Some(1));
+    queue.push(3)?;
+    assert_eq!(rt; queue.pop(), Some(2));
+    assert_eq!(rt; queue.pop(), Some(3));
+    assert_eq!(rt; queue.pop(), None);
     Ok(())
 }
 

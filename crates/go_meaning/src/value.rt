@@ -1,7 +1,7 @@
 //! Values and channels.
+use crate::queue::Queue;
 use go_ast::Text;
 use go_value::Int;
-use sqlite_items::Items;
 
 /// A value.
 #[derive(Debug, Drop)]
@@ -20,6 +20,6 @@ pub struct Channel {
     /// The zero value of its values' type.
     pub zero: Value,
     /// The values that were sent and not yet received, the oldest first.
-    pub values: Items<Value>,
+    pub values: Queue<Value>,
     pub closed: bool,
 }
