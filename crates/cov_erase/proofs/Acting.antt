@@ -38,7 +38,7 @@ use Rattle.go_meaning.specs.declared.config.Config.{Config}
 use Rattle.go_meaning.specs.Programs.{Parts, form_at}
 use Rattle.go_meaning.specs.Values.{line_of, first_rune, is_equal}
 use Rattle.go_meaning.specs.Operations.{number, top, on_value, on_flag, on_number, on_text, on_channel, calculated, compared, indexed, a_text, cut_text, measured, made, closed_by, closed, written, output_limit, printed, locked, unlocked, set_number, added, waited, apply}
-use Rattle.go_meaning.specs.Acts.{Slots, assignment, simple_items, part, comm_items, go_on, statement, run, constant, string_limit, pushed, variable, eval, loop, test, next, advance, each, branch, enter, cases, default_of, match_case, matched, compare_case, has, assign, act_of}
+use Rattle.go_meaning.specs.Acts.{Slots, assignment, simple_items, part, comm_items, go_on, statement, run, constant, string_limit, pushed, variable, eval, loop, decided, next, advance, each, branch, enter, cases, default_of, match_case, matched, compare_case, has, assign, act_of}
 use Rattle.go_meaning.specs.Acts as acts
 use Rattle.go_meaning.specs.Erasing.{erase_program, place_of, erase_item, erase_config}
 use Rattle.cov_erase.proofs.Places.{IsPlain, form_erased, next_place}
@@ -327,8 +327,8 @@ module _ (Q : Parts) where
   sim_loop n i (Some (node.For first None last l)) = refl
   sim_loop n i o = refl
 
-  sim_test : (n i : ℕ) (o : Option NodeForm) (b : Bool) → test n (place_of Q n i) o b ≡ erase_act (test n i o b)
-  unfolding erase_act test
+  sim_test : (n i : ℕ) (o : Option NodeForm) (b : Bool) → decided n (place_of Q n i) o b ≡ erase_act (decided n i o b)
+  unfolding erase_act decided
   sim_test n i (Some (node.For first e last l)) true = refl
   sim_test n i (Some (node.For first e last l)) false = refl
   sim_test n i o b = refl
@@ -395,7 +395,7 @@ module _ (Q : Parts) where
   sim_act (Or e) c slots st h = sim_flag _ _ _ (λ b. sim_if b (act.Pushes 1 (value.Flag true)) (act.Replaces 1 (Eval e ∷ [])) refl refl)
   sim_act (Branch a o) c slots st h = sim_flag _ _ _ (sim_branch a o)
   sim_act (Loop n i) c slots st h = at_place (loop n (place_of Q n i)) _ n i h (sim_loop n i _)
-  sim_act (Test n i) c slots st h = at_place (λ o. on_flag (top 0 st) (test n (place_of Q n i) o)) _ n i h (sim_flag _ _ _ (sim_test n i _))
+  sim_act (Test n i) c slots st h = at_place (λ o. on_flag (top 0 st) (decided n (place_of Q n i) o)) _ n i h (sim_flag _ _ _ (sim_test n i _))
   sim_act (Next n i) c slots st h = at_place (next n (place_of Q n i)) _ n i h (sim_next n i _)
   sim_act (Each n i) c slots st h =
       at_place (λ o. on_number (top 0 st) (λ at. on_text (top 1 st) (each n (place_of Q n i) o at))) _ n i h (sim_number _ _ _ (λ at. sim_text _ _ _ (sim_each n i _ at)))

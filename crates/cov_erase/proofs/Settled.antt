@@ -39,7 +39,7 @@ use Rattle.go_meaning.specs.declared.config.Config.{Config}
 use Rattle.go_meaning.specs.Programs.{Parts, list_at, form_at}
 use Rattle.go_meaning.specs.Values.{first_rune, line_of}
 use Rattle.go_meaning.specs.Operations.{number, on_value, on_flag, on_number, on_text, on_channel, calculated, compared, indexed, a_text, cut_text, measured, made, closed_by, closed, written, output_limit, printed, locked, unlocked, set_number, added, waited, apply}
-use Rattle.go_meaning.specs.Acts.{Slots, assignment, simple_items, part, comm_items, go_on, statement, run, constant, string_limit, pushed, variable, eval, loop, test, next, advance, each, branch, enter, cases, default_of, match_case, matched, compare_case, has, assign, act_of}
+use Rattle.go_meaning.specs.Acts.{Slots, assignment, simple_items, part, comm_items, go_on, statement, run, constant, string_limit, pushed, variable, eval, loop, decided, next, advance, each, branch, enter, cases, default_of, match_case, matched, compare_case, has, assign, act_of}
 use Rattle.go_meaning.specs.Acts as acts
 use Rattle.cov_erase.proofs.Places.{IsPlain}
 use Rattle.cov_erase.proofs.Cover.{IsFresh, IsOther}
@@ -365,8 +365,8 @@ module _ (Q : Parts) where
   puts_loop n i (Some (node.For first None last l)) h = (tt, (h, tt))
   puts_loop n i o h = tt
 
-  puts_test : (n i : ℕ) (o : Option NodeForm) → IsPlain (form_at Q n i) → (b : Bool) → Puts (test n i o b)
-  unfolding Puts test
+  puts_test : (n i : ℕ) (o : Option NodeForm) → IsPlain (form_at Q n i) → (b : Bool) → Puts (decided n i o b)
+  unfolding Puts decided
   puts_test n i (Some (node.For first e last l)) h true = (tt, (h, tt))
   puts_test n i (Some (node.For first e last l)) h false = tt
   puts_test n i o h b = tt

@@ -17,7 +17,7 @@ use Rattle.go_meaning.specs.Values.{first_rune}
 use Rattle.go_meaning.specs.Histories.{start, replay, replay_from, IsDead}
 use Rattle.go_meaning.specs.Programs.{Parts}
 use Rattle.go_meaning.specs.Operations.{number, apply, on_value, on_flag, on_number, on_text, on_channel, calculated, compared, indexed, a_text, cut_text, measured, made, closed_by, closed, written, printed, locked, unlocked, set_number, added, waited}
-use Rattle.go_meaning.specs.Acts.{act_of, has, branch, each, test, matched, compare, assign, constant, pushed}
+use Rattle.go_meaning.specs.Acts.{act_of, has, branch, each, decided, matched, compare, assign, constant, pushed}
 use Rattle.go_meaning.specs.Moves.{put}
 use Rattle.go_meaning.specs.Channels.{lone}
 use Rattle.go_meaning.specs.Steps.{step, together, arrive_both}
@@ -32,16 +32,16 @@ exchanges = program 1 (record { name = codes "f"; params = 1; results = 0; slots
     ∷ [])
 
 goes_together : replayed exchanges (steps 12 1 ++ steps 4 2 ++ Step 1 0 2 0 ∷ steps 4 1) ≡ Some (record { output = codes "7\n"; end = Some ends.Returned })
-unfolding on_value on_flag on_number on_text on_channel calculated compared indexed a_text cut_text measured made closed_by closed written printed locked unlocked set_number added waited has branch each test matched compare assign constant pushed digits encode step act_of put lone apply replay_from value_of wrap first_rune Rattle.go_meaning.specs.declared.expr.Expr.TheViews.out-Expr denote.Hole.Carrier.out Rattle.go_meaning.specs.declared.expr.Expr.TheBlock.shown-the_row-Expr-1 denote.Hole.Carrier.shown denote.Hole.Carrier.hidden
+unfolding on_value on_flag on_number on_text on_channel calculated compared indexed a_text cut_text measured made closed_by closed written printed locked unlocked set_number added waited has branch each decided matched compare assign constant pushed digits encode step act_of put lone apply replay_from value_of wrap first_rune Rattle.go_meaning.specs.declared.expr.Expr.TheViews.out-Expr denote.Hole.Carrier.out Rattle.go_meaning.specs.declared.expr.Expr.TheBlock.shown-the_row-Expr-1 denote.Hole.Carrier.shown denote.Hole.Carrier.hidden
 goes_together = refl
 
 from_the_sender : replayed exchanges (steps 12 1 ++ steps 4 2 ++ Step 2 0 1 0 ∷ steps 4 1) ≡ Some (record { output = codes "7\n"; end = Some ends.Returned })
-unfolding on_value on_flag on_number on_text on_channel calculated compared indexed a_text cut_text measured made closed_by closed written printed locked unlocked set_number added waited has branch each test matched compare assign constant pushed digits encode step act_of put lone apply replay_from value_of wrap first_rune Rattle.go_meaning.specs.declared.expr.Expr.TheViews.out-Expr denote.Hole.Carrier.out Rattle.go_meaning.specs.declared.expr.Expr.TheBlock.shown-the_row-Expr-1 denote.Hole.Carrier.shown denote.Hole.Carrier.hidden
+unfolding on_value on_flag on_number on_text on_channel calculated compared indexed a_text cut_text measured made closed_by closed written printed locked unlocked set_number added waited has branch each decided matched compare assign constant pushed digits encode step act_of put lone apply replay_from value_of wrap first_rune Rattle.go_meaning.specs.declared.expr.Expr.TheViews.out-Expr denote.Hole.Carrier.out Rattle.go_meaning.specs.declared.expr.Expr.TheBlock.shown-the_row-Expr-1 denote.Hole.Carrier.shown denote.Hole.Carrier.hidden
 from_the_sender = refl
 
 -- neither goes on by itself
 not_alone : replay exchanges (steps 12 1 ++ steps 5 2) ≡ None
-unfolding on_value on_flag on_number on_text on_channel calculated compared indexed a_text cut_text measured made closed_by closed written printed locked unlocked set_number added waited has branch each test matched compare assign constant pushed digits encode step act_of put lone apply replay_from value_of wrap first_rune Rattle.go_meaning.specs.declared.expr.Expr.TheViews.out-Expr denote.Hole.Carrier.out Rattle.go_meaning.specs.declared.expr.Expr.TheBlock.shown-the_row-Expr-1 denote.Hole.Carrier.shown denote.Hole.Carrier.hidden
+unfolding on_value on_flag on_number on_text on_channel calculated compared indexed a_text cut_text measured made closed_by closed written printed locked unlocked set_number added waited has branch each decided matched compare assign constant pushed digits encode step act_of put lone apply replay_from value_of wrap first_rune Rattle.go_meaning.specs.declared.expr.Expr.TheViews.out-Expr denote.Hole.Carrier.out Rattle.go_meaning.specs.declared.expr.Expr.TheBlock.shown-the_row-Expr-1 denote.Hole.Carrier.shown denote.Hole.Carrier.hidden
 not_alone = refl
 
 -- c := make(chan int, 1); select { default: fmt.Println(0); case c <- 7: fmt.Println(<-c) }
@@ -53,11 +53,11 @@ selects = program 1 [] (
     ∷ [])
 
 case_is_ready : replayed selects (steps 9 1 ++ Step 1 2 0 0 ∷ steps 11 1) ≡ Some (record { output = codes "7\n"; end = Some ends.Returned })
-unfolding on_value on_flag on_number on_text on_channel calculated compared indexed a_text cut_text measured made closed_by closed written printed locked unlocked set_number added waited has branch each test matched compare assign constant pushed digits encode step act_of put lone apply replay_from value_of wrap first_rune Rattle.go_meaning.specs.declared.expr.Expr.TheViews.out-Expr denote.Hole.Carrier.out Rattle.go_meaning.specs.declared.expr.Expr.TheBlock.shown-the_row-Expr-1 denote.Hole.Carrier.shown denote.Hole.Carrier.hidden
+unfolding on_value on_flag on_number on_text on_channel calculated compared indexed a_text cut_text measured made closed_by closed written printed locked unlocked set_number added waited has branch each decided matched compare assign constant pushed digits encode step act_of put lone apply replay_from value_of wrap first_rune Rattle.go_meaning.specs.declared.expr.Expr.TheViews.out-Expr denote.Hole.Carrier.out Rattle.go_meaning.specs.declared.expr.Expr.TheBlock.shown-the_row-Expr-1 denote.Hole.Carrier.shown denote.Hole.Carrier.hidden
 case_is_ready = refl
 
 no_default : replay selects (steps 9 1 ++ Step 1 1 0 0 ∷ []) ≡ None
-unfolding on_value on_flag on_number on_text on_channel calculated compared indexed a_text cut_text measured made closed_by closed written printed locked unlocked set_number added waited has branch each test matched compare assign constant pushed digits encode step act_of put lone apply replay_from value_of wrap first_rune Rattle.go_meaning.specs.declared.expr.Expr.TheViews.out-Expr denote.Hole.Carrier.out Rattle.go_meaning.specs.declared.expr.Expr.TheBlock.shown-the_row-Expr-1 denote.Hole.Carrier.shown denote.Hole.Carrier.hidden
+unfolding on_value on_flag on_number on_text on_channel calculated compared indexed a_text cut_text measured made closed_by closed written printed locked unlocked set_number added waited has branch each decided matched compare assign constant pushed digits encode step act_of put lone apply replay_from value_of wrap first_rune Rattle.go_meaning.specs.declared.expr.Expr.TheViews.out-Expr denote.Hole.Carrier.out Rattle.go_meaning.specs.declared.expr.Expr.TheBlock.shown-the_row-Expr-1 denote.Hole.Carrier.shown denote.Hole.Carrier.hidden
 no_default = refl
 
 -- c := make(chan int, 2); c <- 1; c <- 2; close(c); for v := range c { fmt.Println(v) }
@@ -68,7 +68,7 @@ pulls = program 2 [] (
     ∷ [])
 
 drains : ran pulls ≡ record { output = codes "1\n2\n"; end = Some ends.Returned }
-unfolding exact fault on_value on_flag on_number on_text on_channel calculated compared indexed a_text cut_text measured made closed_by closed written printed locked unlocked set_number added waited has branch each test matched compare assign constant pushed digits encode step act_of put lone apply replay_from value_of wrap first_rune Rattle.go_meaning.specs.declared.expr.Expr.TheViews.out-Expr denote.Hole.Carrier.out Rattle.go_meaning.specs.declared.expr.Expr.TheBlock.shown-the_row-Expr-1 denote.Hole.Carrier.shown denote.Hole.Carrier.hidden
+unfolding exact fault on_value on_flag on_number on_text on_channel calculated compared indexed a_text cut_text measured made closed_by closed written printed locked unlocked set_number added waited has branch each decided matched compare assign constant pushed digits encode step act_of put lone apply replay_from value_of wrap first_rune Rattle.go_meaning.specs.declared.expr.Expr.TheViews.out-Expr denote.Hole.Carrier.out Rattle.go_meaning.specs.declared.expr.Expr.TheBlock.shown-the_row-Expr-1 denote.Hole.Carrier.shown denote.Hole.Carrier.hidden
 drains = refl
 
 -- c := make(chan int); close(c); v, ok := <-c; fmt.Println(v, ok); c <- 1
@@ -78,7 +78,7 @@ closes = program 3 [] (
     ∷ [])
 
 zero_when_closed : ran closes ≡ record { output = codes "0 false\n"; end = Some (ends.Panic (codes "send on closed channel")) }
-unfolding exact fault on_value on_flag on_number on_text on_channel calculated compared indexed a_text cut_text measured made closed_by closed written printed locked unlocked set_number added waited has branch each test matched compare assign constant pushed digits encode step act_of put lone apply replay_from value_of wrap first_rune Rattle.go_meaning.specs.declared.expr.Expr.TheViews.out-Expr denote.Hole.Carrier.out Rattle.go_meaning.specs.declared.expr.Expr.TheBlock.shown-the_row-Expr-1 denote.Hole.Carrier.shown denote.Hole.Carrier.hidden
+unfolding exact fault on_value on_flag on_number on_text on_channel calculated compared indexed a_text cut_text measured made closed_by closed written printed locked unlocked set_number added waited has branch each decided matched compare assign constant pushed digits encode step act_of put lone apply replay_from value_of wrap first_rune Rattle.go_meaning.specs.declared.expr.Expr.TheViews.out-Expr denote.Hole.Carrier.out Rattle.go_meaning.specs.declared.expr.Expr.TheBlock.shown-the_row-Expr-1 denote.Hole.Carrier.shown denote.Hole.Carrier.hidden
 zero_when_closed = refl
 
 -- c := make(chan int); c <- 1: no goroutine has a step
@@ -93,7 +93,7 @@ both_none true f o e = refl
 both_none false f o e = ap (option_map f) e
 
 no_partner : (i k j q : ℕ) → together blocks blocked k q (slice_get blocked.goroutines i) (slice_get blocked.goroutines j) ≡ None
-unfolding exact fault on_value on_flag on_number on_text on_channel calculated compared indexed a_text cut_text measured made closed_by closed written printed locked unlocked set_number added waited has branch each test matched compare assign constant pushed digits encode step act_of put lone apply replay_from value_of wrap first_rune Rattle.go_meaning.specs.declared.expr.Expr.TheViews.out-Expr denote.Hole.Carrier.out Rattle.go_meaning.specs.declared.expr.Expr.TheBlock.shown-the_row-Expr-1 denote.Hole.Carrier.shown denote.Hole.Carrier.hidden
+unfolding exact fault on_value on_flag on_number on_text on_channel calculated compared indexed a_text cut_text measured made closed_by closed written printed locked unlocked set_number added waited has branch each decided matched compare assign constant pushed digits encode step act_of put lone apply replay_from value_of wrap first_rune Rattle.go_meaning.specs.declared.expr.Expr.TheViews.out-Expr denote.Hole.Carrier.out Rattle.go_meaning.specs.declared.expr.Expr.TheBlock.shown-the_row-Expr-1 denote.Hole.Carrier.shown denote.Hole.Carrier.hidden
 no_partner zero zero zero zero = refl
 no_partner zero zero zero (suc q) = refl
 no_partner zero zero (suc zero) zero = refl
@@ -107,7 +107,7 @@ no_partner (suc (suc i)) zero j q = refl
 no_partner (suc (suc i)) (suc k) j q = refl
 
 deadlock : IsDead blocks blocked
-unfolding exact fault on_value on_flag on_number on_text on_channel calculated compared indexed a_text cut_text measured made closed_by closed written printed locked unlocked set_number added waited has branch each test matched compare assign constant pushed digits encode step act_of put lone apply replay_from value_of wrap first_rune Rattle.go_meaning.specs.declared.expr.Expr.TheViews.out-Expr denote.Hole.Carrier.out Rattle.go_meaning.specs.declared.expr.Expr.TheBlock.shown-the_row-Expr-1 denote.Hole.Carrier.shown denote.Hole.Carrier.hidden
+unfolding exact fault on_value on_flag on_number on_text on_channel calculated compared indexed a_text cut_text measured made closed_by closed written printed locked unlocked set_number added waited has branch each decided matched compare assign constant pushed digits encode step act_of put lone apply replay_from value_of wrap first_rune Rattle.go_meaning.specs.declared.expr.Expr.TheViews.out-Expr denote.Hole.Carrier.out Rattle.go_meaning.specs.declared.expr.Expr.TheBlock.shown-the_row-Expr-1 denote.Hole.Carrier.shown denote.Hole.Carrier.hidden
 deadlock (Step zero k p q) = refl
 deadlock (Step (suc zero) zero zero zero) = refl
 deadlock (Step (suc zero) (suc k) zero zero) = refl

@@ -31,7 +31,7 @@ use Rattle.go_meaning.specs.declared.config.Config.{Config}
 use Rattle.go_meaning.specs.Programs.{Parts, form_at}
 use Rattle.go_meaning.specs.Values.{first_rune, line_of}
 use Rattle.go_meaning.specs.Operations.{top, on_value, on_flag, on_number, on_text, on_channel, calculated, compared, indexed, a_text, cut_text, measured, made, closed_by, closed, written, output_limit, printed, locked, unlocked, set_number, added, waited, apply}
-use Rattle.go_meaning.specs.Acts.{Slots, statement, run, constant, string_limit, pushed, variable, eval, loop, test, next, advance, each, branch, match_case, matched, compare_case, has, assign, act_of, default_of, enter}
+use Rattle.go_meaning.specs.Acts.{Slots, statement, run, constant, string_limit, pushed, variable, eval, loop, decided, next, advance, each, branch, match_case, matched, compare_case, has, assign, act_of, default_of, enter}
 use Rattle.go_meaning.specs.Acts as acts
 use Rattle.go_meaning.specs.Fitting.{IsFitting, ActsFit}
 
@@ -270,8 +270,8 @@ module _ (c : Config) (st : List Value) where
   fits_loop n i (Some (node.For first None last l)) = none
   fits_loop n i o = tt
 
-  fits_test : (n i : ℕ) (o : Option NodeForm) (b : Bool) → 1 ≤ length st → Fits (test n i o b)
-  unfolding test IsFitting
+  fits_test : (n i : ℕ) (o : Option NodeForm) (b : Bool) → 1 ≤ length st → Fits (decided n i o b)
+  unfolding decided IsFitting
   fits_test n i (Some (node.For first e last l)) true h = h
   fits_test n i (Some (node.For first e last l)) false h = h
   fits_test n i o b h = tt

@@ -21,7 +21,7 @@ use Rattle.go_meaning.specs.declared.event.Event.TheVariants.{Step, Count}
 use Rattle.go_meaning.specs.Programs.{Parts, list_at, form_of, form_at}
 use Rattle.go_meaning.specs.Values.{is_equal}
 use Rattle.go_meaning.specs.Operations.{top, on_value, on_flag, on_number, on_text}
-use Rattle.go_meaning.specs.Acts.{Slots, run, loop, test, next, each, matched, act_of}
+use Rattle.go_meaning.specs.Acts.{Slots, run, loop, decided, next, each, matched, act_of}
 use Rattle.go_meaning.specs.Acts as acts
 use Rattle.go_meaning.specs.Moves.{Move, put}
 use Rattle.go_meaning.specs.Channels.{Side, Sides, pull_side, pick_sides, item_sides, control_sides, frame_sides, sides_of, side_at, partner_sides, listed, exchange, by_itself, has_partner, is_ready, lone, Defaults, Neither, Offers, Wants}
@@ -40,8 +40,8 @@ loop_shape n i None = refl
 loop_shape n i (Some (node.Block l b)) = refl
 loop_shape n i (Some form) = refl
 
-test_shape : (n i : ℕ) (o : Option NodeForm) (b : Bool) → test n i (option_map shape_of_form o) b ≡ test n i o b
-unfolding test
+test_shape : (n i : ℕ) (o : Option NodeForm) (b : Bool) → decided n i (option_map shape_of_form o) b ≡ decided n i o b
+unfolding decided
 test_shape n i None b = refl
 test_shape n i (Some (node.Block l x)) b = refl
 test_shape n i (Some form) b = refl
@@ -109,7 +109,7 @@ module _ (P : Parts) where
   unfolding act_of
   act_shape c (Run n i) slots st = ap (run n i) (form_shape n i) ∙ run_shape n i (form_at P n i)
   act_shape c (Loop n i) slots st = ap (loop n i) (form_shape n i) ∙ loop_shape n i (form_at P n i)
-  act_shape c (Test n i) slots st = ap (λ o. on_flag (top 0 st) (test n i o)) (form_shape n i) ∙ ap (on_flag (top 0 st)) (fun_ext (λ b. test_shape n i (form_at P n i) b))
+  act_shape c (Test n i) slots st = ap (λ o. on_flag (top 0 st) (decided n i o)) (form_shape n i) ∙ ap (on_flag (top 0 st)) (fun_ext (λ b. test_shape n i (form_at P n i) b))
   act_shape c (Next n i) slots st = ap (next n i) (form_shape n i) ∙ next_shape n i (form_at P n i)
   act_shape c (Each n i) slots st =
       ap (λ o. on_number (top 0 st) (λ at. on_text (top 1 st) (each n i o at))) (form_shape n i)

@@ -15,7 +15,7 @@ use Rattle.go_meaning.specs.Values.{first_rune}
 use Rattle.go_meaning.specs.Histories.{replay_from}
 use Rattle.go_meaning.specs.Programs.{Parts}
 use Rattle.go_meaning.specs.Operations.{number, apply, on_value, on_flag, on_number, on_text, on_channel, calculated, compared, indexed, a_text, cut_text, measured, made, closed_by, closed, written, printed, locked, unlocked, set_number, added, waited}
-use Rattle.go_meaning.specs.Acts.{act_of, has, branch, each, test, matched, compare, assign, constant, pushed}
+use Rattle.go_meaning.specs.Acts.{act_of, has, branch, each, decided, matched, compare, assign, constant, pushed}
 use Rattle.go_meaning.specs.Moves.{put}
 use Rattle.go_meaning.specs.Channels.{lone}
 use Rattle.go_meaning.specs.Steps.{step}
@@ -29,7 +29,7 @@ abbrev invalid : Parts
 invalid = program 2 [] ((node.RangeText (to_slot 0) (to_slot 1) (text (255 ∷ 195 ∷ 169 ∷ [])) 1 ∷ []) ∷ (prints (slot 0 ∷ slot 1 ∷ []) ∷ []) ∷ [])
 
 reads_invalid : ran invalid ≡ record { output = codes "0 65533\n1 233\n"; end = Some ends.Returned }
-unfolding exact fault on_value on_flag on_number on_text on_channel calculated compared indexed a_text cut_text measured made closed_by closed written printed locked unlocked set_number added waited has branch each test matched compare assign constant pushed digits encode step act_of put lone apply replay_from value_of wrap first_rune Rattle.go_meaning.specs.declared.expr.Expr.TheViews.out-Expr denote.Hole.Carrier.out Rattle.go_meaning.specs.declared.expr.Expr.TheBlock.shown-the_row-Expr-1 denote.Hole.Carrier.shown denote.Hole.Carrier.hidden
+unfolding exact fault on_value on_flag on_number on_text on_channel calculated compared indexed a_text cut_text measured made closed_by closed written printed locked unlocked set_number added waited has branch each decided matched compare assign constant pushed digits encode step act_of put lone apply replay_from value_of wrap first_rune Rattle.go_meaning.specs.declared.expr.Expr.TheViews.out-Expr denote.Hole.Carrier.out Rattle.go_meaning.specs.declared.expr.Expr.TheBlock.shown-the_row-Expr-1 denote.Hole.Carrier.shown denote.Hole.Carrier.hidden
 reads_invalid = refl
 
 -- x := -9223372036854775808; y := -1; fmt.Println(x / y, x % y); y = 0; fmt.Println(x / y)
@@ -39,7 +39,7 @@ divides = program 2 [] (
     ∷ [])
 
 least_by_minus_one : ran divides ≡ record { output = codes "-9223372036854775808 0\n"; end = Some (ends.Panic (codes "runtime error: integer divide by zero")) }
-unfolding exact fault on_value on_flag on_number on_text on_channel calculated compared indexed a_text cut_text measured made closed_by closed written printed locked unlocked set_number added waited has branch each test matched compare assign constant pushed digits encode step act_of put lone apply replay_from value_of wrap first_rune Rattle.go_meaning.specs.declared.expr.Expr.TheViews.out-Expr denote.Hole.Carrier.out Rattle.go_meaning.specs.declared.expr.Expr.TheBlock.shown-the_row-Expr-1 denote.Hole.Carrier.shown denote.Hole.Carrier.hidden
+unfolding exact fault on_value on_flag on_number on_text on_channel calculated compared indexed a_text cut_text measured made closed_by closed written printed locked unlocked set_number added waited has branch each decided matched compare assign constant pushed digits encode step act_of put lone apply replay_from value_of wrap first_rune Rattle.go_meaning.specs.declared.expr.Expr.TheViews.out-Expr denote.Hole.Carrier.out Rattle.go_meaning.specs.declared.expr.Expr.TheBlock.shown-the_row-Expr-1 denote.Hole.Carrier.shown denote.Hole.Carrier.hidden
 least_by_minus_one = refl
 
 -- fmt.Println("abcd"[1:3], "abc"[1], false && "abc"[7] == 0)
@@ -47,7 +47,7 @@ abbrev texts : Parts
 texts = program 0 [] ((prints (expr.Apply (op.Cut true true) (text (codes "abcd") ∷ int 1 ∷ int 3 ∷ []) ∷ expr.Apply op.Index (text (codes "abc") ∷ int 1 ∷ []) ∷ expr.And (expr.Value (value.Flag false)) (expr.Apply (op.Compare relation.Equal) (expr.Apply op.Index (text (codes "abc") ∷ int 7 ∷ []) ∷ int 0 ∷ [])) ∷ []) ∷ []) ∷ [])
 
 cuts_and_skips : ran texts ≡ record { output = codes "bc 98 false\n"; end = Some ends.Returned }
-unfolding exact fault on_value on_flag on_number on_text on_channel calculated compared indexed a_text cut_text measured made closed_by closed written printed locked unlocked set_number added waited has branch each test matched compare assign constant pushed digits encode step act_of put lone apply replay_from value_of wrap first_rune Rattle.go_meaning.specs.declared.expr.Expr.TheViews.out-Expr denote.Hole.Carrier.out Rattle.go_meaning.specs.declared.expr.Expr.TheBlock.shown-the_row-Expr-1 denote.Hole.Carrier.shown denote.Hole.Carrier.hidden
+unfolding exact fault on_value on_flag on_number on_text on_channel calculated compared indexed a_text cut_text measured made closed_by closed written printed locked unlocked set_number added waited has branch each decided matched compare assign constant pushed digits encode step act_of put lone apply replay_from value_of wrap first_rune Rattle.go_meaning.specs.declared.expr.Expr.TheViews.out-Expr denote.Hole.Carrier.out Rattle.go_meaning.specs.declared.expr.Expr.TheBlock.shown-the_row-Expr-1 denote.Hole.Carrier.shown denote.Hole.Carrier.hidden
 cuts_and_skips = refl
 
 -- var mu sync.Mutex; var wg sync.WaitGroup; mu.Lock(); mu.Unlock(); wg.Add(1); wg.Done(); wg.Wait(); mu.Unlock()
@@ -57,5 +57,5 @@ locks = record (program 0 [] (
     ∷ [])) { globals = global.Mutex ∷ global.Group ∷ [] }
 
 unlocks_free : ran locks ≡ record { output = []; end = Some (ends.Fatal (codes "sync: unlock of unlocked mutex")) }
-unfolding exact fault on_value on_flag on_number on_text on_channel calculated compared indexed a_text cut_text measured made closed_by closed written printed locked unlocked set_number added waited has branch each test matched compare assign constant pushed digits encode step act_of put lone apply replay_from value_of wrap first_rune Rattle.go_meaning.specs.declared.expr.Expr.TheViews.out-Expr denote.Hole.Carrier.out Rattle.go_meaning.specs.declared.expr.Expr.TheBlock.shown-the_row-Expr-1 denote.Hole.Carrier.shown denote.Hole.Carrier.hidden
+unfolding exact fault on_value on_flag on_number on_text on_channel calculated compared indexed a_text cut_text measured made closed_by closed written printed locked unlocked set_number added waited has branch each decided matched compare assign constant pushed digits encode step act_of put lone apply replay_from value_of wrap first_rune Rattle.go_meaning.specs.declared.expr.Expr.TheViews.out-Expr denote.Hole.Carrier.out Rattle.go_meaning.specs.declared.expr.Expr.TheBlock.shown-the_row-Expr-1 denote.Hole.Carrier.shown denote.Hole.Carrier.hidden
 unlocks_free = refl

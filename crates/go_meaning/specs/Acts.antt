@@ -122,10 +122,10 @@ loop n i (Some (node.For first (Some e) last l)) = act.Replaces 0 (Eval e ∷ Te
 loop n i (Some (node.For first None last l)) = act.Replaces 0 (Run l 0 ∷ Next n i ∷ [])
 loop n i o = act.Stuck
 
-unfoldable pub test : ℕ → ℕ → Option NodeForm → Bool → Act
-test n i (Some (node.For first e last l)) true = act.Replaces 1 (Run l 0 ∷ Next n i ∷ [])
-test n i (Some (node.For first e last l)) false = act.Replaces 1 []
-test n i o b = act.Stuck
+unfoldable pub decided : ℕ → ℕ → Option NodeForm → Bool → Act
+decided n i (Some (node.For first e last l)) true = act.Replaces 1 (Run l 0 ∷ Next n i ∷ [])
+decided n i (Some (node.For first e last l)) false = act.Replaces 1 []
+decided n i o b = act.Stuck
 
 abbrev pub next : ℕ → ℕ → Option NodeForm → Act
 next n i (Some (node.For first e last l)) = act.Replaces 0 (part last ++ Loop n i ∷ [])
@@ -203,7 +203,7 @@ act_of P c (And e) slots st = on_flag (top 0 st) (λ b. if b then act.Replaces 1
 act_of P c (Or e) slots st = on_flag (top 0 st) (λ b. if b then act.Pushes 1 (value.Flag true) else act.Replaces 1 (Eval e ∷ []))
 act_of P c (Branch a o) slots st = on_flag (top 0 st) (branch a o)
 act_of P c (Loop n i) slots st = loop n i (form_at P n i)
-act_of P c (Test n i) slots st = on_flag (top 0 st) (test n i (form_at P n i))
+act_of P c (Test n i) slots st = on_flag (top 0 st) (decided n i (form_at P n i))
 act_of P c (Next n i) slots st = next n i (form_at P n i)
 act_of P c (Each n i) slots st = on_number (top 0 st) (λ at. on_text (top 1 st) (each n i (form_at P n i) at))
 act_of P c (Match n i k) slots st = on_value (top 0 st) (λ tag. matched n i k (form_at P n i))

@@ -72,7 +72,7 @@ pub fn loop_items(
 }
 
 /// What a loop does after its test.
-#[tactic(auto, unfolding(go_meaning::specs::Acts::test))]
+#[tactic(auto, unfolding(go_meaning::specs::Acts::decided))]
 pub fn tested(
     alloc: Global,
     list: u64,
@@ -80,7 +80,7 @@ pub fn tested(
     form: Option<&NodeForm>,
     goes_on: bool,
 ) -> Result<Act, AllocError>
-    ensures { IfOk result (λ a. a ≡ acts.test list index (option_copied form.entry) goes_on) }
+    ensures { IfOk result (λ a. a ≡ acts.decided list index (option_copied form.entry) goes_on) }
 {
     let mut items = Stack::new(alloc);
     match form {
