@@ -45,3 +45,5 @@ pub mod LeafRead
 pub mod BreaksRead
 pub mod IfRead
 pub mod StmtRead
+pub mod OneFault
+pub mod Whole

@@ -1,5 +1,5 @@
 -- What the reader of files answers.
-use Rattle.std.specs.Prelude.{◌≡◌, ℕ, ◌-◌, ◌≤◌, ◌<◌, List, length, Result, Ok, Err}
+use Rattle.std.specs.Prelude.{◌≡◌, ◌⊎◌, ℕ, ◌-◌, ◌≤◌, ◌<◌, List, length, Result, Ok, Err}
 use Rattle.go_ast.specs.declared.file.File.{File}
 use Rattle.go_grammar.specs.Words.{Word}
 use Rattle.go_grammar.specs.Blocks.{source}
@@ -29,3 +29,15 @@ ReadsFiles = (turns most depth : ℕ) (ts : List Word) → 1 ≤ depth → lengt
 -- tokens spell at most one file
 abbrev pub SpellsOne : Type 0
 SpellsOne = (ts : List Word) (x y : File) → Spells source x ts → Spells source y ts → x ≡ y
+
+-- within limits tokens spell a file, or have a first fault
+abbrev pub TreeOrFault : Type 0
+TreeOrFault = (most depth : ℕ) (ts : List Word) → 1 ≤ depth → ((file : File) × SpellsWithin source most depth file ts) ⊎ ((i : ℕ) × (f : Fault) × IsFaultAt most depth ts i f)
+
+-- never both
+abbrev pub TreeHasNoFault : Type 0
+TreeHasNoFault = (most depth i : ℕ) (ts : List Word) (file : File) (f : Fault) → SpellsWithin source most depth file ts → IsFaultAt most depth ts i f → ⊥
+
+-- and one fault alone
+abbrev pub OneFault : Type 0
+OneFault = (most depth i j : ℕ) (ts : List Word) (f g : Fault) → IsFaultAt most depth ts i f → IsFaultAt most depth ts j g → (i ≡ j) × (f ≡ g)

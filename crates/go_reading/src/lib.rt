@@ -5,6 +5,7 @@
 
 mod fault;
 mod header;
+pub mod laws;
 mod lead;
 mod qualified;
 mod sign;
