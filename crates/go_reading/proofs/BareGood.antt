@@ -34,7 +34,8 @@ use Rattle.go_reading.proofs.Rows.{some_not_none}
 use Rattle.go_reading.proofs.RowsRead.{is_other}
 use Rattle.go_reading.proofs.TypesGood.{IsQualified, alone, pair, QualifiedOf, qualified_rises, qualified_one, expr_qualified, target_qualified}
 use Rattle.go_reading.proofs.ExprsGood.{an_expr, is_an_expr}
-use Rattle.go_reading.proofs.LeadGood.{begun_expr, begins_some, pick, seen}
+use Rattle.go_reading.proofs.Begun.{begun_expr, begins_some, pick}
+use Rattle.go_reading.proofs.LeadGood.{seen}
 use Rattle.go_reading.proofs.StmtForms.{target_in_eval, SimpleLoose}
 
 -- ---- the same in other words

@@ -31,7 +31,8 @@ use Rattle.go_reading.proofs.Tables.{binary_sound, level_small, level_some}
 use Rattle.go_reading.proofs.Rows.{Within, within_rises, some_not_none}
 use Rattle.go_reading.proofs.TypesGood.{QualifiedOf, qualified_rises, qualified_one, target_qualified}
 use Rattle.go_reading.proofs.ExprsGood.{ExprOf, expr_rises, expr_good, climb_good, ExprsOf, exprs_good, an_expr, is_an_expr, tall}
-use Rattle.go_reading.proofs.LeadGood.{target_spelled, targets_snoc, targets_names, pick}
+use Rattle.go_reading.proofs.Begun.{pick}
+use Rattle.go_reading.proofs.LeadGood.{target_spelled, targets_snoc, targets_names}
 use Rattle.go_reading.proofs.StmtForms.{IsCaseHead, case_is, default_is, IsCommHead, comm_is, none_is}
 
 -- ---- clauses of a switch

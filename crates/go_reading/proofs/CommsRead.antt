@@ -30,7 +30,8 @@ use Rattle.go_reading.proofs.ExprsGood.{tall, leveled, ExprOf, expr_good}
 use Rattle.go_reading.proofs.Good.{At, is_is, is_self, some_is}
 use Rattle.go_reading.proofs.Tables.{unary_of}
 use Rattle.go_reading.proofs.RowsRead.{sees, kind_is, is_other}
-use Rattle.go_reading.proofs.ExprsRead.{Plain, ends_by, plain_colon, plain_comma, plain_assign, plain_define, plain_arrow, expr_read, exprs_read}
+use Rattle.go_reading.proofs.Ends.{Plain, ends_by, plain_colon, plain_comma, plain_assign, plain_define, plain_arrow}
+use Rattle.go_reading.proofs.ExprsRead.{expr_read, exprs_read}
 use Rattle.go_reading.proofs.SpecsRead.{exprs_tall}
 use Rattle.go_reading.proofs.SimpleRead.{next_read, target_front, row_targets}
 use Rattle.go_reading.proofs.StmtForms.{IsCaseHead, case_is, default_is, IsCommHead, comm_is, none_is}

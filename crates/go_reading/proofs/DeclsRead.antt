@@ -29,7 +29,7 @@ use Rattle.go_reading.proofs.Good.{is_self}
 use Rattle.go_reading.proofs.RowsRead.{sees, kind_is, is_other, list_reads}
 use Rattle.go_reading.proofs.TypesRead.{names_read, type_read, type_begins}
 use Rattle.go_reading.proofs.SpecsRead.{spec_ends, consts_read, vars_read, names_begin, type_not_comma}
-use Rattle.go_reading.proofs.ExprsRead.{plain_semicolon}
+use Rattle.go_reading.proofs.Ends.{plain_semicolon}
 use Rattle.go_reading.proofs.BlockForm.{BlockRead}
 
 -- ---- parameters

@@ -25,7 +25,8 @@ use Rattle.go_reading.specs.Simple.{target_of, plain_of, plains_of, eval_stmt, l
 use Rattle.go_reading.specs.Stmts.{maybe_before, range_head, last_part, parts_head, for_by, for_head}
 use Rattle.go_reading.proofs.ExprsGood.{leveled}
 use Rattle.go_reading.proofs.RowsRead.{sees, kind_is, is_other}
-use Rattle.go_reading.proofs.ExprsRead.{ends_by, plain_left_brace, plain_semicolon, plain_comma, plain_define, begins_expr, expr_read}
+use Rattle.go_reading.proofs.Ends.{ends_by, plain_left_brace, plain_semicolon, plain_comma, plain_define, begins_expr}
+use Rattle.go_reading.proofs.ExprsRead.{expr_read}
 use Rattle.go_reading.proofs.BareGood.{regroup}
 use Rattle.go_reading.proofs.SimpleRead.{stmt_ends, last_semicolon, last_left_brace, led_read, lead_other, lead_define, from_read, given_define, target_front, name_alone, names_of, sign_at, sign_comma, sign_define, row_targets, begun_not, simple_read}
 use Rattle.go_reading.proofs.HeadsRead.{simple_begins, brace_no}

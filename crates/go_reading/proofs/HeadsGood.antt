@@ -23,7 +23,8 @@ use Rattle.go_reading.specs.Stmts.{maybe_before, header_of, after_first, header_
 use Rattle.go_reading.proofs.Good.{Room, ◌⊑◌, Form, Good, Rises, Rest, seq, weaker, good_pure, good_refuse, good_far, good_limited, choice, by_test, expect_then, a_word, some_is}
 use Rattle.go_reading.proofs.Rows.{Within, within_rises, some_not_none}
 use Rattle.go_reading.proofs.ExprsGood.{ExprOf, expr_good, AnyExpr, any_expr, an_expr, is_an_expr, tall}
-use Rattle.go_reading.proofs.LeadGood.{LeadIs, lead_rises, led_good, begun_expr, begins_some}
+use Rattle.go_reading.proofs.Begun.{begun_expr, begins_some}
+use Rattle.go_reading.proofs.LeadGood.{LeadIs, lead_rises, led_good}
 use Rattle.go_reading.proofs.BareGood.{good_regroup}
 use Rattle.go_reading.proofs.StmtForms.{HeaderOf}
 

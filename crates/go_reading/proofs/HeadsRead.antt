@@ -22,7 +22,8 @@ use Rattle.go_reading.specs.Simple.{eval_stmt, lead}
 use Rattle.go_reading.specs.Stmts.{maybe_before, after_first, header_by, header, maybe_header}
 use Rattle.go_reading.proofs.ExprsGood.{tall, leveled}
 use Rattle.go_reading.proofs.RowsRead.{sees, kind_is}
-use Rattle.go_reading.proofs.ExprsRead.{ends_by, plain_left_brace, begins_expr, not_begun, expr_read}
+use Rattle.go_reading.proofs.Ends.{ends_by, plain_left_brace, begins_expr, not_begun}
+use Rattle.go_reading.proofs.ExprsRead.{expr_read}
 use Rattle.go_reading.proofs.BareGood.{regroup}
 use Rattle.go_reading.proofs.SimpleRead.{StmtEnds, stmt_ends, last_semicolon, last_left_brace, led_read, lead_other, row_targets, begun_not}
 

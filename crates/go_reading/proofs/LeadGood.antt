@@ -1,22 +1,20 @@
 -- What an expression at the front of a statement is part of: its reader is good.
-use Rattle.std.proofs.Common.{◌≡◌, ◌≢◌, ◌⊎◌, inl, inr, ◌||◌, ◌==◌, ℕ, zero, suc, ◌+◌, ◌≤◌, max, Bool, true, false, List, [], ◌∷◌, ◌++◌, Option, Some, None, refl, sym, ap, subst, ◌∙◌, append_assoc, arith, nat_lt, if◌then◌else◌}
+use Rattle.std.proofs.Common.{◌≡◌, ◌≢◌, ◌⊎◌, inl, inr, ℕ, zero, suc, ◌+◌, ◌≤◌, max, Bool, true, false, List, [], ◌∷◌, ◌++◌, Option, Some, None, refl, sym, ap, subst, ◌∙◌, append_assoc, arith, nat_lt, if◌then◌else◌}
 use Rattle.std.proofs.lemmas.List.{append-nil}
-use Rattle.std.proofs.lemmas.Bool.{ltb-false, le-ltb, eqb-true}
+use Rattle.std.proofs.lemmas.Bool.{ltb-false, le-ltb}
 use Rattle.go_ast.specs.declared.name.Name.{Name}
 use Rattle.go_ast.specs.declared.token.TokenKind.{TokenKind}
 use Rattle.go_ast.specs.declared.token.TokenKind.TheVariants as kind
 use Rattle.go_ast.specs.declared.expr.Expr.{Expr}
 use Rattle.go_ast.specs.declared.expr.ExprForm.{out-ExprForm}
 use Rattle.go_ast.specs.declared.expr.BinaryOp.{BinaryOp}
-use Rattle.go_ast.specs.declared.expr.UnaryOp.{UnaryOp}
-use Rattle.go_ast.specs.declared.expr.UnaryOp.TheVariants as sign
 use Rattle.go_ast.specs.declared.block.Target.{Target}
 use Rattle.go_ast.specs.declared.block.Target.TheVariants as target
 use Rattle.go_ast.specs.declared.block.Stmt.{Stmt}
 use Rattle.go_ast.specs.declared.block.StmtForm.TheVariants as statement
 use Rattle.go_grammar.specs.Words.{Word}
 use Rattle.go_grammar.specs.Terminals as t
-use Rattle.go_grammar.specs.Trees.{name_of, expr_node, expr_start, expr_end, exprs_end, stmt_node, target_start, targets_start, names_start, update_kind, plain_expr, int_expr, rune_expr, text_expr, chan_expr, paren_expr, unary_expr, unary_kind}
+use Rattle.go_grammar.specs.Trees.{name_of, expr_node, expr_start, expr_end, exprs_end, stmt_node, target_start, targets_start, names_start, update_kind}
 use Rattle.go_grammar.specs.Lists.{IsRow, one_item, more_items}
 use Rattle.go_grammar.specs.Types.{IsName, name, IsNames}
 use Rattle.go_grammar.specs.Exprs.{IsExpr, int, rune, text, plain, member, channel, parens, called, indexed, cut, signed, operated, IsExprs, one_expr}
@@ -37,8 +35,9 @@ use Rattle.go_reading.specs.Simple.{target_of, plain_of, plains_by, plains_of, n
 use Rattle.go_reading.proofs.Good.{Room, ◌⊑◌, room, up, Form, At, Good, Filled, Rises, Rest, seq, weaker, fewer, good_pure, good_refuse, good_exhausted, good_if, peeked, choice, by_test, take_then, expect_then, a_word, some_is, shift}
 use Rattle.go_reading.proofs.Tables.{SignOf, sign_sound}
 use Rattle.go_reading.proofs.Rows.{some_not_none}
-use Rattle.go_reading.proofs.TypesGood.{a_type, is_a_type, IsQualified, alone, pair, target_qualified}
+use Rattle.go_reading.proofs.TypesGood.{IsQualified, alone, pair, target_qualified}
 use Rattle.go_reading.proofs.ExprsGood.{ExprOf, AnyExpr, ExprsOf, expr_good, exprs_good, an_expr, is_an_expr}
+use Rattle.go_reading.proofs.Begun.{begun_expr, begins_some}
 
 -- ---- a limit of its own
 
@@ -84,61 +83,6 @@ expr_under K never n n' len c c' m m' led deep some ts = shift n (c, m) K (Under
 pub exprs_under : (K : Fault → Type 0) (never : K Exhausted → ⊥) (n n' : ℕ) → n ≤ n' → (c c' m m' : ℕ) → (c, m) ⊑ (c', m') → (K TooDeep → c ≡ c') → 1 ≤ c → (ts : List Word) → Good n (suc c, m) K (Under IsExprs) (exprs n c) (exprs n' c') ts
 exprs_under K never n n' len c c' m m' led deep some ts = shift n (c, m) K (Under IsExprs) _ ts _ _
     (weaker n (c, m) K ExprsOf (λ b. Under IsExprs (up b)) _ _ _ _ (λ b db x w i. (i.0, let f = i.1 in omega arith)) (exprs_good K never n n' len (c, m) (c', m') led deep some ts))
-
--- ---- what begins an expression
-
-pub pick : {P : Type 0} (a b : Bool) → (a || b) ≡ true → (a ≡ true → P) → (b ≡ true → P) → P
-pick true b e f g = f refl
-pick false b e f g = g e
-
-Begun : Word → Type 0
-Begun a = (x : Tall Expr) × (w : List Word) × AnyExpr x.1 x.0 (a ∷ w)
-
-begun_unary : (a : Word) (op : UnaryOp) → a.kind ≡ unary_kind op → Begun a
-unfolding Begun
-begun_unary a op k = ((unary_expr a op an_expr, 2), a_word kind.Name ∷ [], (6, signed a op 7 1 an_expr (a_word kind.Name ∷ []) k is_an_expr (omega arith)))
-
-begun_parens : (a : Word) → a.kind ≡ t.left_parenthesis → Begun a
-unfolding Begun
-begun_parens a k = let q = a_word t.right_parenthesis in ((paren_expr a an_expr q, 2), a_word kind.Name ∷ q ∷ [], (7, parens a q 7 1 an_expr (a_word kind.Name ∷ []) k is_an_expr refl))
-
-begun_channel : (a : Word) → a.kind ≡ t.chan_word → Begun a
-unfolding Begun
-begun_channel a k = ((chan_expr a a_type, 2), a_word kind.Name ∷ [], (7, channel a 1 a_type (a_word kind.Name ∷ []) k is_a_type))
-
-operator_is : (a : Word) (place n : ℕ) → a.kind ≡ kind.Operator place → (place == n) ≡ true → a.kind ≡ kind.Operator n
-operator_is a place n k e = k ∙ ap kind.Operator (eqb-true place n e)
-
-begun_operator : (a : Word) (place : ℕ) → a.kind ≡ kind.Operator place → begins (Some (kind.Operator place)) ≡ true → Begun a
-unfolding begins
-begun_operator a place k b =
-    pick _ (place == 38) b (λ b.
-    pick _ (place == 31) b (λ b.
-    pick _ (place == 24) b (λ b.
-    pick _ (place == 7) b (λ b.
-    pick (place == 0) (place == 1) b (λ e. begun_unary a sign.Plus (operator_is a place 0 k e)) (λ e. begun_unary a sign.Minus (operator_is a place 1 k e)))
-    (λ e. begun_unary a sign.Flip (operator_is a place 7 k e)))
-    (λ e. begun_unary a sign.Receive (operator_is a place 24 k e)))
-    (λ e. begun_unary a sign.Not (operator_is a place 31 k e)))
-    (λ e. begun_parens a (operator_is a place 38 k e))
-
-begun_at : (a : Word) (k : TokenKind) → a.kind ≡ k → begins (Some k) ≡ true → Begun a
-unfolding begins Begun
-begun_at a kind.Name e b = ((plain_expr a, 1), [], (7, plain a e))
-begun_at a kind.Int e b = ((int_expr a, 1), [], (7, int a e))
-begun_at a kind.Rune e b = ((rune_expr a, 1), [], (7, rune a e))
-begun_at a kind.Text e b = ((text_expr a, 1), [], (7, text a e))
-begun_at a (kind.Keyword place) e b = begun_channel a (e ∙ ap kind.Keyword (eqb-true place 2 b))
-begun_at a (kind.Operator place) e b = begun_operator a place e b
-
-pub begun_expr : (a : Word) → begins (Some a.kind) ≡ true → (x : Tall Expr) × (w : List Word) × AnyExpr x.1 x.0 (a ∷ w)
-unfolding Begun
-begun_expr a b = begun_at a a.kind refl b
-
-pub begins_some : (o : Option TokenKind) → begins o ≡ true → o ≢ None
-unfolding begins
-begins_some None b e = absurd cc
-begins_some (Some k) b e = cc
 
 -- ---- targets
 

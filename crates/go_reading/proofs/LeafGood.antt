@@ -26,7 +26,7 @@ use Rattle.go_reading.proofs.BlockForm.{BlockOf, block_of_rises}
 use Rattle.go_reading.proofs.StmtForms.{StmtIn}
 use Rattle.go_reading.proofs.Started.{empty_block}
 use Rattle.go_reading.proofs.StmtsGood.{a_return}
-use Rattle.go_reading.proofs.LeadGood.{begun_expr, begins_some}
+use Rattle.go_reading.proofs.Begun.{begun_expr, begins_some}
 
 module _ (K : Fault → Type 0) (never : K Exhausted → ⊥) (n n' : ℕ) (len : n ≤ n') (d d' : Room) (led : d ⊑ d') (deep : K TooDeep → d.0 ≡ d'.0) where
   abbrev Up : Form (Tall Stmt)

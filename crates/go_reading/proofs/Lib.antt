@@ -5,6 +5,7 @@ pub mod TypesGood
 pub mod ExprsGood
 pub mod RowsRead
 pub mod TypesRead
+pub mod Ends
 pub mod ExprsRead
 pub mod SpecsGood
 pub mod SpecsRead
@@ -17,6 +18,7 @@ pub mod FilesRead
 pub mod First
 pub mod Top
 pub mod StmtForms
+pub mod Begun
 pub mod LeadGood
 pub mod BareGood
 pub mod SimpleGood

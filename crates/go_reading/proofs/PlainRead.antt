@@ -22,7 +22,8 @@ use Rattle.go_reading.specs.Stmts.{plain_stmt}
 use Rattle.go_reading.proofs.ExprsGood.{leveled}
 use Rattle.go_reading.proofs.TypesGood.{alone, expr_qualified}
 use Rattle.go_reading.proofs.RowsRead.{sees, kind_is, is_other}
-use Rattle.go_reading.proofs.ExprsRead.{Ends, Plain, ends_by, plain_comma, plain_colon, plain_assign, plain_define, plain_arrow, expr_read}
+use Rattle.go_reading.proofs.Ends.{Ends, Plain, ends_by, plain_comma, plain_colon, plain_assign, plain_define, plain_arrow}
+use Rattle.go_reading.proofs.ExprsRead.{expr_read}
 use Rattle.go_reading.proofs.SimpleGood.{target_is_name}
 use Rattle.go_reading.proofs.SimpleRead.{StmtEnds, sign_increment, sign_decrement, update_of, row_targets, target_front, bare_read, simple_read}
 

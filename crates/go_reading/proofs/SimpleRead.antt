@@ -34,7 +34,8 @@ use Rattle.go_reading.proofs.TypesGood.{IsQualified, alone, pair, expr_qualified
 use Rattle.go_reading.proofs.ExprsGood.{tall, leveled}
 use Rattle.go_reading.proofs.RowsRead.{sees, kind_is, is_other}
 use Rattle.go_reading.proofs.TypesRead.{qualified_read, alone_read, qualified_kind}
-use Rattle.go_reading.proofs.ExprsRead.{Ends, Plain, ends_by, plain_comma, plain_assign, plain_define, plain_arrow, begins_expr, expr_read, exprs_read}
+use Rattle.go_reading.proofs.Ends.{Ends, Plain, ends_by, plain_comma, plain_assign, plain_define, plain_arrow, begins_expr}
+use Rattle.go_reading.proofs.ExprsRead.{expr_read, exprs_read}
 use Rattle.go_reading.proofs.SpecsRead.{exprs_tall}
 use Rattle.go_reading.proofs.SimpleGood.{target_is_name}
 use Rattle.go_reading.proofs.BareGood.{regroup}

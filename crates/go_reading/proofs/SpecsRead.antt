@@ -23,7 +23,8 @@ use Rattle.go_reading.specs.Specs.{const_spec, consts, values_of, var_spec, vars
 use Rattle.go_reading.proofs.RowsRead.{sees, kind_is, is_other, group_reads}
 use Rattle.go_reading.proofs.TypesRead.{names_read, type_read, type_begins, type_tall, maybe_type_read}
 use Rattle.go_reading.proofs.ExprsGood.{tall, leveled}
-use Rattle.go_reading.proofs.ExprsRead.{Ends, Plain, ends_by, plain_semicolon, plain_parenthesis, expr_read, exprs_read}
+use Rattle.go_reading.proofs.Ends.{Ends, Plain, ends_by, plain_semicolon, plain_parenthesis}
+use Rattle.go_reading.proofs.ExprsRead.{expr_read, exprs_read}
 
 -- what may follow a declaration
 pub record SpecEnds (rest : List Word) : Type 0 where

@@ -21,7 +21,7 @@ use Rattle.go_reading.proofs.BlockForm.{BlockOf, BlockGood}
 use Rattle.go_reading.proofs.StmtForms.{StmtIn, Loose}
 use Rattle.go_reading.proofs.Started.{StartsStmt, started, started_by}
 use Rattle.go_reading.proofs.StmtsGood.{loose, a_return, block_in_good, good_eq}
-use Rattle.go_reading.proofs.LeadGood.{begun_expr}
+use Rattle.go_reading.proofs.Begun.{begun_expr}
 use Rattle.go_reading.proofs.PlainGood.{BreakOf, plain_in}
 use Rattle.go_reading.proofs.HeadsGood.{header_good}
 use Rattle.go_reading.proofs.CommsGood.{case_head_good}
