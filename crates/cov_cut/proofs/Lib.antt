@@ -3,6 +3,7 @@ pub mod Segments
 pub mod Walks
 pub mod Clauses
 pub mod Files
+pub mod Branches
 pub mod Dividing
 pub mod Placed
 pub mod Built

@@ -4,3 +4,4 @@ pub mod Units
 pub mod Layers
 pub mod Placement
 pub mod Laws
+pub mod Counted

@@ -35,7 +35,7 @@ fn cut_decl(alloc: Global, functions: &mut Vec<FuncUnits>, decl: &Decl) -> Resul
     }
 }
 
-fn is_cut(f: &Func) -> bool
+pub fn is_cut(f: &Func) -> bool
     ensures { result ≡ spec.is_cut f.now }
 {
     f.name.text.bytes() != b"_".as_slice()

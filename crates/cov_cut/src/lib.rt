@@ -1,6 +1,7 @@
 //! Cuts the functions of a file into units.
 #![tactic(auto)]
 
+mod else_if;
 mod file;
 mod frame;
 pub mod laws;
@@ -9,6 +10,7 @@ mod statement;
 mod unit;
 mod walk;
 
+pub use else_if::else_ifs;
 pub use file::cut;
 pub use unit::{FuncUnits, Unit};
 
