@@ -15,8 +15,8 @@ fn is_simple(quote: u8, byte: u8) -> bool
     matches!(byte, b'a' | b'b' | b'f' | b'n' | b'r' | b't' | b'v' | b'\\') || byte == quote
 }
 
-/// How long the escape is that has this byte behind its backslash.
-fn escape_len(byte: u8) -> usize
+/// How many bytes the escape has that has this byte behind its backslash.
+pub fn escape_len(byte: u8) -> usize
     ensures value { result ≡ len_of_escape byte }
     ensures some { 2 ≤ result }
 {
@@ -89,7 +89,7 @@ fn hex_digit(byte: u8) -> u32
 }
 
 /// The value of at most eight hexadecimal digits.
-fn hex_value(digits: &[u8]) -> u32
+pub fn hex_value(digits: &[u8]) -> u32
     requires hex { list_all hex digits.now ≡ true }
     requires few { length digits.now ≤ 8 }
     ensures { result ≡ value_from 16 0 digits.now }
@@ -102,7 +102,7 @@ fn hex_value(digits: &[u8]) -> u32
 }
 
 /// The value of an octal digit and at most two others.
-fn octal_value(first: u8, digits: &[u8]) -> u32
+pub fn octal_value(first: u8, digits: &[u8]) -> u32
     requires first { octal first ≡ true }
     requires octal { list_all octal digits.now ≡ true }
     requires few { length digits.now ≤ 2 }

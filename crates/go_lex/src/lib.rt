@@ -17,5 +17,8 @@ mod tests;
 mod tokens;
 mod word;
 
+pub use escape::{escape_len, hex_value, octal_value};
 pub use fault::LexFault;
 pub use lexer::lex;
+pub use number::is_octal;
+pub use quote::inner;

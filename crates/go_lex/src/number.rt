@@ -11,6 +11,7 @@ fn is_decimal(byte: u8) -> bool
     byte >= b'0' && byte <= b'9'
 }
 
+/// Whether a byte is an octal digit.
 pub fn is_octal(byte: u8) -> bool
     ensures { result ≡ number.is_octal byte }
 {

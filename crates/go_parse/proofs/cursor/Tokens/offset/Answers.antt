@@ -1,0 +1,5 @@
+use Rattle.std.proofs.Common.{rules, arith}
+use Rattle.go_parse.proofs.cursor.Tokens.offset.Goals as goal
+
+pub overflow_cast-result : goal.overflow_cast-result
+overflow_cast-result c = let short = c.self.invariant.0 in search rules
