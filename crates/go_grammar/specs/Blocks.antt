@@ -1,5 +1,5 @@
 -- Statements and blocks: which tokens spell which tree.
-use Rattle.std.specs.Prelude.{◌≡◌, ℕ, ◌+◌, ◌≤◌, max, List, [], ◌∷◌, ◌++◌, length, Option, Some, None}
+use Rattle.std.specs.Prelude.{◌≡◌, ℕ, ◌+◌, ◌≤◌, ◌<◌, max, List, [], ◌∷◌, ◌++◌, length, Option, Some, None}
 use Rattle.go_ast.specs.declared.token.TokenKind.TheVariants as kind
 use Rattle.go_ast.specs.declared.name.Name.{Name}
 use Rattle.go_ast.specs.declared.expr.Expr.{Expr}
@@ -13,17 +13,31 @@ use Rattle.go_ast.specs.declared.block.CaseClause.{CaseClause}
 use Rattle.go_ast.specs.declared.block.CommClause.{CommClause}
 use Rattle.go_ast.specs.declared.block.Comm.{Comm}
 use Rattle.go_ast.specs.declared.block.Comm.TheVariants as comm
+use Rattle.go_grammar.specs.declared.form.CounterForm.{CounterForm}
+use Rattle.go_grammar.specs.declared.form.Form.{Form}
+use Rattle.go_grammar.specs.declared.form.Form.TheVariants as form
 use Rattle.go_grammar.specs.Words.{Word}
 use Rattle.go_grammar.specs.Terminals as t
+use Rattle.go_grammar.specs.Patterns.{AllFit}
+use Rattle.go_grammar.specs.Covering.{counter}
 use Rattle.go_grammar.specs.Lists.{MayBe}
 use Rattle.go_grammar.specs.Types.{IsNames}
 use Rattle.go_grammar.specs.Exprs.{IsExpr, IsExprs, IsMaybe}
 use Rattle.go_grammar.specs.Simple.{IsConsts, IsVars, IsSimple, IsComm}
 use Rattle.go_grammar.specs.Trees.{name_of, stmt_node, stmt_end, expr_end, exprs_end, block_node, block_left, hidden_block, other_node, case_node, comm_node}
 
--- the form of a text
-pub data Form : Type 0 where
-  source : Form
+-- the form of a text as its author wrote it
+abbrev pub source : Form
+source = form.Source
+
+-- and with the counters of a number of units
+abbrev pub covered : List ℕ → CounterForm → ℕ → Form
+covered var mode count = form.Covered var mode count
+
+-- the end of the last token
+abbrev pub last_end : Word → List Word → ℕ
+last_end a [] = a.span.end
+last_end a (b ∷ w) = last_end b w
 
 -- [ Simple ";" ]
 pub data IsFirst : ℕ → Option Stmt → List Word → Type 0 where
@@ -45,6 +59,7 @@ pub data IsRangeNames : List Name → List Word → Type 0 where
 mutual
   -- Stmt = Const | Var | Simple | Block | If | For | Switch | Select | Label | "return" [ Exprs ]
   --      | "break" [ Name ] | "continue" [ Name ] | "fallthrough" | "go" Expr | "defer" Expr
+  -- and in a covered text the counter of a unit, which isn't counted in a height.
   -- Label = Name ":" ( For | Switch | Select )
   pub data IsStmt (form : Form) (most : ℕ) : ℕ → Stmt → List Word → Type 0 where
     constants : (k : Word) (h end : ℕ) (cs : List ConstSpec) (w : List Word) → k.kind ≡ t.const_word → IsConsts h cs end w → IsStmt form most (h + 1) (stmt_node k.span.start end (stmt.Const cs)) (k ∷ w)
@@ -64,6 +79,8 @@ mutual
     falls : (k : Word) → k.kind ≡ t.fallthrough_word → IsStmt form most 1 (stmt_node k.span.start k.span.end stmt.Fallthrough) (k ∷ [])
     goes : (k : Word) (l h : ℕ) (e : Expr) (w : List Word) → k.kind ≡ t.go_word → IsExpr l h e w → IsStmt form most (h + 1) (stmt_node k.span.start (expr_end e) (stmt.Go e)) (k ∷ w)
     defers : (k : Word) (l h : ℕ) (e : Expr) (w : List Word) → k.kind ≡ t.defer_word → IsExpr l h e w → IsStmt form most (h + 1) (stmt_node k.span.start (expr_end e) (stmt.Defer e)) (k ∷ w)
+    counted : (a : Word) (var : List ℕ) (mode : CounterForm) (count i : ℕ) (w : List Word) → form ≡ covered var mode count → i < count → AllFit (counter var mode i) (a ∷ w)
+        → IsStmt form most 0 (stmt_node a.span.start (last_end a w) (stmt.Count i)) (a ∷ w)
 
   -- If = "if" [ Simple ";" ] Expr Block [ "else" ( If | Block ) ]
   pub data IsIf (form : Form) (most : ℕ) : ℕ → Stmt → List Word → Type 0 where

@@ -14,7 +14,8 @@ use Rattle.go_grammar.specs.Terminals as t
 use Rattle.go_grammar.specs.Lists.{IsRow, MayBe}
 use Rattle.go_grammar.specs.Types.{IsNames, IsType}
 use Rattle.go_grammar.specs.Simple.{IsConsts, IsVars}
-use Rattle.go_grammar.specs.Blocks.{Form, IsBlock}
+use Rattle.go_grammar.specs.declared.form.Form.{Form}
+use Rattle.go_grammar.specs.Blocks.{IsBlock}
 use Rattle.go_grammar.specs.Trees.{name_of}
 
 -- parameters of one type

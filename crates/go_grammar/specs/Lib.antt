@@ -1,8 +1,10 @@
 pub mod Blocks
+pub mod Covering
 pub mod Decls
 pub mod Exprs
 pub mod Files
 pub mod Lists
+pub mod Patterns
 pub mod Simple
 pub mod Sound
 pub mod Spellings

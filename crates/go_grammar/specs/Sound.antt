@@ -4,7 +4,7 @@ use Rattle.go_ast.specs.declared.token.Token.{Token}
 use Rattle.go_ast.specs.declared.file.File.{File}
 use Rattle.go_ast.specs.Tokens.{HasTokens}
 use Rattle.go_grammar.specs.Words.{words_of}
-use Rattle.go_grammar.specs.Blocks.{Form}
+use Rattle.go_grammar.specs.declared.form.Form.{Form}
 use Rattle.go_grammar.specs.Files.{SpellsWithin}
 
 -- the greatest number of clauses of a `select`, and the greatest height of a tree

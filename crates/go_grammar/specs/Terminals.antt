@@ -59,6 +59,9 @@ return_word = kind.Keyword 19
 abbrev pub select_word : TokenKind
 select_word = kind.Keyword 20
 
+abbrev pub struct_word : TokenKind
+struct_word = kind.Keyword 21
+
 abbrev pub switch_word : TokenKind
 switch_word = kind.Keyword 22
 

@@ -3,7 +3,7 @@
 use Rattle.std.specs.Prelude.{◌≡◌, ℕ, ◌+◌, ◌≤◌, ◌<◌, List, ◌++◌, length, take}
 use Rattle.go_ast.specs.declared.file.File.{File}
 use Rattle.go_grammar.specs.Words.{Word}
-use Rattle.go_grammar.specs.Blocks.{Form}
+use Rattle.go_grammar.specs.declared.form.Form.{Form}
 use Rattle.go_grammar.specs.Files.{SpellsWithin, Spells}
 
 -- some text of the form begins with these tokens

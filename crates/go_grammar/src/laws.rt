@@ -23,6 +23,7 @@ pub fn terminals()
     ensures is_range_word { IsKeyword (codes "range") t.range_word }
     ensures is_return_word { IsKeyword (codes "return") t.return_word }
     ensures is_select_word { IsKeyword (codes "select") t.select_word }
+    ensures is_struct_word { IsKeyword (codes "struct") t.struct_word }
     ensures is_switch_word { IsKeyword (codes "switch") t.switch_word }
     ensures is_var_word { IsKeyword (codes "var") t.var_word }
     ensures is_plus { IsOperator (codes "+") t.plus }

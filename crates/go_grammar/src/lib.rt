@@ -3,4 +3,7 @@
 //! The definitions stand in `specs`; `go_parse` finds what they say.
 #![tactic(auto)]
 
+mod form;
 pub mod laws;
+
+pub use form::{CounterForm, Form};

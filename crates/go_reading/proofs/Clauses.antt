@@ -8,9 +8,10 @@ use Rattle.go_ast.specs.declared.block.CommClause.{CommClause}
 use Rattle.go_ast.specs.declared.decl.Decl.{Decl}
 use Rattle.go_ast.specs.declared.file.File.{File}
 use Rattle.go_grammar.specs.Words.{Word}
-use Rattle.go_grammar.specs.Blocks.{Form, IsStmt, constants, variables, simple, nested, branch, breakable, labelled, return_none, return_some, breaks, breaks_to, continues, continues_to, falls, goes, defers, IsIf, if_, IsElse, no_else, else_block, else_if, IsBreakable, for_test, for_parts, for_range, switch, select, IsCases, no_cases, more_cases, IsCase, case_, default_, IsComms, no_comms, more_comms, IsCommClause, comm_case, comm_default, IsBlock, braces, IsList, no_stmts, stmts, IsStmts, one_stmt, more_stmts}
+use Rattle.go_grammar.specs.declared.form.Form.{Form}
+use Rattle.go_grammar.specs.Blocks.{IsStmt, constants, variables, simple, nested, branch, breakable, labelled, return_none, return_some, breaks, breaks_to, continues, continues_to, falls, goes, defers, counted, IsIf, if_, IsElse, no_else, else_block, else_if, IsBreakable, for_test, for_parts, for_range, switch, select, IsCases, no_cases, more_cases, IsCase, case_, default_, IsComms, no_comms, more_comms, IsCommClause, comm_case, comm_default, IsBlock, braces, IsList, no_stmts, stmts, IsStmts, one_stmt, more_stmts}
 use Rattle.go_grammar.specs.Decls.{IsDecl, constants as consts', variables as vars', function}
-use Rattle.go_grammar.specs.Files.{IsDecls, no_decls, more_decls, IsFile, source_file}
+use Rattle.go_grammar.specs.Files.{IsDecls, no_decls, more_decls, IsFile, source_file, covered_file}
 
 module _ (form : Form) (m m' : ℕ) (le : m ≤ m') where
   mutual
@@ -31,6 +32,7 @@ module _ (form : Form) (m m' : ℕ) (le : m ≤ m') where
     stmt_rises _ _ _ (falls k e) = falls k e
     stmt_rises _ _ _ (goes k l h x w e i) = goes k l h x w e i
     stmt_rises _ _ _ (defers k l h x w e i) = defers k l h x w e i
+    stmt_rises _ _ _ (counted a var mode count i w e lt f) = counted a var mode count i w e lt f
 
     pub if_rises : (h : ℕ) (x : Stmt) (w : List Word) → IsIf form m h x w → IsIf form m' h x w
     if_rises _ _ _ (if_ k l i j a n end end' f x b o u v w z e p q r s) = if_ k l i j a n end end' f x b o u v w z e p q (block_rises a b end w r) (else_rises n o end end' z s)
@@ -85,3 +87,4 @@ module _ (form : Form) (m m' : ℕ) (le : m ≤ m') where
 
   pub file_rises : (h : ℕ) (x : File) (w : List Word) → IsFile form m h x w → IsFile form m' h x w
   file_rises _ _ _ (source_file k n s h is ds u v e kk kn ks i j) = source_file k n s h is ds u v e kk kn ks i (decls_rise h ds v j)
+  file_rises _ _ _ (covered_file k n s h is ds var mode count p u v w e kk kn ks fp i d fw) = covered_file k n s h is ds var mode count p u v w e kk kn ks fp i (decls_rise h ds v d) fw

@@ -12,13 +12,14 @@ use Rattle.go_grammar.specs.Trees.{name_of}
 use Rattle.go_grammar.specs.Lists.{IsGroup}
 use Rattle.go_grammar.specs.Blocks.{source}
 use Rattle.go_grammar.specs.Decls.{IsDecl, constants, variables, function}
-use Rattle.go_grammar.specs.Files.{IsPath, path as path', IsImports, no_imports, more_imports, IsDecls, no_decls, more_decls, IsFile, source_file}
+use Rattle.go_grammar.specs.Files.{IsPath, path as path', IsImports, no_imports, more_imports, IsDecls, no_decls, more_decls, IsFile, source_file, covered_file}
 use Rattle.go_reading.specs.Kinds.{same, is}
 use Rattle.go_reading.specs.Input.{kind_of, take_as, expect_as}
 use Rattle.go_reading.specs.Decls.{declaration}
 use Rattle.go_reading.specs.Files.{path, paths, imports_from, decls_from, file}
 use Rattle.go_reading.proofs.RowsRead.{sees, kind_is, is_other, group_reads}
 use Rattle.go_reading.proofs.BlockForm.{BlockRead}
+use Rattle.go_reading.proofs.NotCovered.{not_covered}
 use Rattle.go_reading.proofs.DeclsRead.{decl_read}
 
 -- ---- imports
@@ -96,3 +97,4 @@ file_read reads n m d some _ _ _ (source_file k a s h is ds u v e kk ka ks i j) 
     let len = length-append u v in
     let z : max 0 h ≡ h = omega arith in
     file_step n m d h k a s is ds (u ++ v) v [] kk ka ks (imports_read n d some is u i (omega arith) n (omega arith) [] v (no_import_at m h ds v j)) (decls_read reads n m d h ds v j le (omega arith) n (omega arith) [] 0 ∙ rw z refl)
+file_read reads n m d some h _ _ (covered_file k a s h' imports ds var mode count p u v w e kk ka ks fp i j fw) le long = absurd (not_covered var mode count e)

@@ -11,6 +11,7 @@ pub mod SpecsGood
 pub mod SpecsRead
 pub mod DeclsGood
 pub mod Clauses
+pub mod NotCovered
 pub mod BlockForm
 pub mod DeclsRead
 pub mod FilesGood

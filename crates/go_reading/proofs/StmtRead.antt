@@ -7,12 +7,13 @@ use Rattle.go_ast.specs.declared.block.StmtForm.TheVariants as statement
 use Rattle.go_grammar.specs.Words.{Word}
 use Rattle.go_grammar.specs.Terminals as t
 use Rattle.go_grammar.specs.Trees.{name_of, stmt_node, stmt_end}
-use Rattle.go_grammar.specs.Blocks.{source, IsBreakable, constants, variables, simple, nested, branch, breakable, labelled, return_none, return_some, breaks, breaks_to, continues, continues_to, falls, goes, defers}
+use Rattle.go_grammar.specs.Blocks.{source, IsBreakable, constants, variables, simple, nested, branch, breakable, labelled, return_none, return_some, breaks, breaks_to, continues, continues_to, falls, goes, defers, counted}
 use Rattle.go_reading.specs.declared.header.Braced.{Braced}
 use Rattle.go_reading.specs.Kinds.{is, begins}
 use Rattle.go_reading.specs.Input.{Reader, Tall, kind_of}
 use Rattle.go_reading.specs.Stmts.{const_stmt, var_stmt, return_stmt, break_stmt, continue_stmt, fallthrough_stmt, go_stmt, defer_stmt, nested_stmt, plain_stmt, if_in, breakable_in, stmt_in, stmt, block, breakable as break_at, if_ as if_at, hidden}
 use Rattle.go_reading.proofs.BlockForm.{BlockRead}
+use Rattle.go_reading.proofs.NotCovered.{not_covered}
 use Rattle.go_reading.proofs.RowsRead.{kind_is}
 use Rattle.go_reading.proofs.SimpleRead.{begun_not}
 use Rattle.go_reading.proofs.PlainRead.{plain_read, label_read}
@@ -118,6 +119,7 @@ module _ (n m d : ℕ) (bl : Reader (Tall Braced)) (blocks : BlockReads n m d bl
   stmt_in_read _ _ _ (falls k kk) le long rest f = at_fallthrough n d bl br bk lb (k ∷ rest) (kind_is k rest t.fallthrough_word kk) ∙ fallthrough_read k rest
   stmt_in_read _ _ _ (goes k l h e w kk i) le long rest f = at_go n d bl br bk lb (k ∷ (w ++ rest)) (kind_is k (w ++ rest) t.go_word kk) ∙ go_read n d k l h e w i (omega arith) (omega arith) rest f
   stmt_in_read _ _ _ (defers k l h e w kk i) le long rest f = at_defer n d bl br bk lb (k ∷ (w ++ rest)) (kind_is k (w ++ rest) t.defer_word kk) ∙ defer_read n d k l h e w i (omega arith) (omega arith) rest f
+  stmt_in_read _ _ _ (counted a var mode count i w e lt fits) le long rest f = absurd (not_covered var mode count e)
 
 -- what is read at a depth
 record Level (n m c : ℕ) : Type 0 where

@@ -6,10 +6,11 @@ use Rattle.go_ast.specs.declared.block.Stmt.{Stmt}
 use Rattle.go_ast.specs.declared.block.Block.{Block}
 use Rattle.go_grammar.specs.Words.{Word}
 use Rattle.go_grammar.specs.Terminals as t
-use Rattle.go_grammar.specs.Blocks.{source, IsStmt, constants, variables, simple, nested, branch, breakable, labelled, return_none, return_some, breaks, breaks_to, continues, continues_to, falls, goes, defers, IsIf, if_, IsBreakable, for_test, for_parts, for_range, switch, select, IsBlock, braces}
+use Rattle.go_grammar.specs.Blocks.{source, IsStmt, constants, variables, simple, nested, branch, breakable, labelled, return_none, return_some, breaks, breaks_to, continues, continues_to, falls, goes, defers, counted, IsIf, if_, IsBreakable, for_test, for_parts, for_range, switch, select, IsBlock, braces}
 use Rattle.go_reading.specs.Kinds.{same, is, begins, begins_stmt, ends_list}
 use Rattle.go_reading.specs.Input.{kind_of}
 use Rattle.go_reading.proofs.Good.{is_is}
+use Rattle.go_reading.proofs.NotCovered.{not_covered}
 use Rattle.go_reading.proofs.CasesGood.{EndsClause, at_brace, at_case, at_default, ends_clause}
 use Rattle.go_reading.proofs.RowsRead.{kind_is, is_other}
 use Rattle.go_reading.proofs.SpecsRead.{SpecEnds, spec_ends}
@@ -132,6 +133,7 @@ stmt_begins m _ _ _ (continues_to k n kk kn) rest = starts_at (Some k.kind) t.co
 stmt_begins m _ _ _ (falls k kk) rest = starts_at (Some k.kind) t.fallthrough_word (kind_is k rest t.fallthrough_word kk) refl
 stmt_begins m _ _ _ (goes k l h e w kk i) rest = starts_at (Some k.kind) t.go_word (kind_is k (w ++ rest) t.go_word kk) refl
 stmt_begins m _ _ _ (defers k l h e w kk i) rest = starts_at (Some k.kind) t.defer_word (kind_is k (w ++ rest) t.defer_word kk) refl
+stmt_begins m _ _ _ (counted a var mode count i w e lt f) rest = absurd (not_covered var mode count e)
 
 -- ---- statements have a level
 
@@ -165,3 +167,4 @@ stmt_tall m _ _ _ (continues_to k n kk kn) = omega arith
 stmt_tall m _ _ _ (falls k kk) = omega arith
 stmt_tall m _ _ _ (goes k l h e w kk i) = omega arith
 stmt_tall m _ _ _ (defers k l h e w kk i) = omega arith
+stmt_tall m _ _ _ (counted a var mode count i w e lt f) = absurd (not_covered var mode count e)
