@@ -1,0 +1,5 @@
+pub mod Rows
+pub mod Parts
+pub mod Spans
+pub mod Standing
+pub mod Woven

@@ -1,0 +1,6 @@
+pub mod Additions
+pub mod Weaving
+pub mod Trailer
+pub mod Covered
+pub mod Reserved
+pub mod Ascending

@@ -1,0 +1,15 @@
+//! Covered texts: sources with counters put in.
+#![tactic(auto)]
+
+mod addition;
+mod covered;
+mod number;
+mod piece;
+mod reserved;
+mod trailer;
+mod units;
+mod weaving;
+
+pub use covered::covered_text;
+pub use piece::{Addition, Piece};
+pub use reserved::reserved_name;
