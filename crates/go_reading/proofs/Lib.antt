@@ -50,3 +50,5 @@ pub mod IfRead
 pub mod StmtRead
 pub mod OneFault
 pub mod Whole
+pub mod OverGood
+pub mod FitGood

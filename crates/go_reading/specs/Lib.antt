@@ -1,3 +1,4 @@
+pub mod Counters
 pub mod Decls
 pub mod Exprs
 pub mod Files
