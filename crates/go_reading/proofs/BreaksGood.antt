@@ -22,7 +22,8 @@ use Rattle.go_reading.specs.Stmts.{begins_clause, case_head, maybe_header, for_f
 use Rattle.go_reading.proofs.Good.{Room, ◌⊑◌, up, Form, Good, Filled, seq, weaker, good_pure, good_refuse, good_limited, choice, take_then, expect_then, IsTaken, a_word, some_is}
 use Rattle.go_reading.proofs.Rows.{Within, some_not_none}
 use Rattle.go_reading.proofs.BlockForm.{BlockOf, block_of_rises}
-use Rattle.go_reading.proofs.StmtForms.{Loose, HeaderOf, header_rises, IsForHead, test_is, parts_are, range_is, IsCaseHead}
+use Rattle.go_reading.proofs.Loose.{Loose}
+use Rattle.go_reading.proofs.StmtForms.{HeaderOf, header_rises, IsForHead, test_is, parts_are, range_is, IsCaseHead}
 use Rattle.go_reading.proofs.Started.{StartsStmt, some_block, some_block_is, empty_block}
 use Rattle.go_reading.proofs.CasesGood.{CasesFrom, cases_then_good}
 use Rattle.go_reading.proofs.HeadsGood.{maybe_header_good}

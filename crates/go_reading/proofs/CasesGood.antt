@@ -1,7 +1,6 @@
 -- The readers of the clauses of `switch` are good, if those of their parts are.
-use Rattle.std.proofs.Common.{◌≡◌, ◌||◌, ℕ, zero, suc, ◌+◌, ◌≤◌, max, Bool, true, false, cond, List, [], ◌∷◌, ◌++◌, Option, Some, None, length, Err, refl, sym, ◌∙◌, append_assoc, arith, if◌then◌else◌}
+use Rattle.std.proofs.Common.{◌≡◌, ℕ, zero, suc, ◌+◌, ◌≤◌, max, Bool, true, false, cond, List, [], ◌∷◌, ◌++◌, Option, Some, None, length, Err, refl, sym, ◌∙◌, append_assoc, arith, if◌then◌else◌}
 use Rattle.std.proofs.lemmas.List.{append-nil}
-use Rattle.go_ast.specs.declared.token.TokenKind.{TokenKind}
 use Rattle.go_ast.specs.declared.token.TokenKind.TheVariants as kind
 use Rattle.go_ast.specs.declared.expr.Expr.{Expr}
 use Rattle.go_ast.specs.declared.block.Stmt.{Stmt}
@@ -13,17 +12,20 @@ use Rattle.go_grammar.specs.Exprs.{one_expr}
 use Rattle.go_grammar.specs.Blocks.{source, IsCases, no_cases, more_cases, IsCase, case_, default_, IsList, no_stmts}
 use Rattle.go_reading.specs.declared.fault.Fault.{Fault}
 use Rattle.go_reading.specs.declared.fault.Fault.TheVariants.{TooDeep, Exhausted}
-use Rattle.go_reading.specs.Kinds.{is, begins_stmt, ends_list}
+use Rattle.go_reading.specs.Kinds.{begins_stmt}
 use Rattle.go_reading.specs.Input.{Reader, Tall, ◌>>=◌, pure, peek, kind_of}
 use Rattle.go_reading.specs.Stmts.{begins_clause, case_head, list, cases_from}
-use Rattle.go_reading.proofs.Good.{Room, ◌⊑◌, Form, Good, Filled, Rises, seq_less, weaker, fewer, by_test, a_word, same_is}
+use Rattle.go_reading.proofs.Good.{Room, ◌⊑◌, Form, Good, Filled, Rises, seq_less, weaker, fewer, by_test, a_word}
 use Rattle.go_reading.proofs.Rows.{Within, within_rises}
 use Rattle.go_reading.proofs.ExprsGood.{an_expr, is_an_expr}
 use Rattle.go_reading.proofs.Clauses.{cases_rise}
-use Rattle.go_reading.proofs.StmtForms.{Loose, IsCaseHead, case_is, default_is}
+use Rattle.go_reading.proofs.Loose.{Loose}
+use Rattle.go_reading.proofs.StmtForms.{IsCaseHead, case_is, default_is}
 use Rattle.go_reading.proofs.Full.{never_full}
 use Rattle.go_reading.proofs.Started.{StartsStmt}
-use Rattle.go_reading.proofs.StmtsGood.{BodyOf, list_then_good, bind_assoc, go_on_eq, good_eq, good_out_of_turns}
+use Rattle.go_reading.proofs.Alike.{bind_assoc, good_eq, good_out_of_turns, go_on_eq}
+use Rattle.go_reading.proofs.StmtsGood.{BodyOf, list_then_good}
+use Rattle.go_reading.proofs.ListEnds.{EndsClause, at_brace, at_case, at_default, ends_clause}
 
 -- ---- what stands before the brace that closes a `switch`
 
@@ -100,22 +102,6 @@ head_some b x w i = go x.1 x.0 w i.0
     go : (h : ℕ) (p : Option (List Expr) × ℕ) (w : List Word) → IsCaseHead h p w → 1 ≤ length w
     go _ _ _ (case_is k c h es w kk is' kc) = omega arith
     go _ _ _ (default_is k c kk kc) = omega arith
-
--- a token that ends a list in a clause closes the body, or begins a clause
-pub data EndsClause (k : TokenKind) : Type 0 where
-  at_brace : k ≡ t.right_brace → EndsClause k
-  at_case : k ≡ t.case_word → EndsClause k
-  at_default : k ≡ t.default_word → EndsClause k
-
-pub ends_clause : (k : TokenKind) → ends_list true (Some k) ≡ true → EndsClause k
-unfolding ends_list
-ends_clause k e = go (is (Some k) t.right_brace) (is (Some k) t.case_word) (is (Some k) t.default_word) refl refl refl e
-  where
-    go : (a b c : Bool) → is (Some k) t.right_brace ≡ a → is (Some k) t.case_word ≡ b → is (Some k) t.default_word ≡ c → (a || b || c) ≡ true → EndsClause k
-    go true b c p q r f' = at_brace (same_is k t.right_brace p)
-    go false true c p q r f' = at_case (same_is k t.case_word q)
-    go false false true p q r f' = at_default (same_is k t.default_word r)
-    go false false false p q r f' = absurd cc
 
 cases_zero : {B : Type 0} (n c : ℕ) (u : Reader (Tall Stmt)) (found : List CaseClause) (h : ℕ) (fin : Tall (List CaseClause) → Reader B) (ts : List Word) → (cases_from n c u zero found h >>= fin) ts ≡ (Err Exhausted, ts)
 unfolding cases_from

@@ -23,13 +23,12 @@ use Rattle.go_reading.specs.Input.{Reader, Tall, go_on, ◌>>=◌, kind_of, span
 use Rattle.go_reading.specs.Exprs.{expr}
 use Rattle.go_reading.specs.Simple.{eval_stmt, lead, simple}
 use Rattle.go_reading.specs.Stmts.{maybe_before, range_head, last_part, parts_head, for_by, for_head}
-use Rattle.go_reading.proofs.Good.{Room, ◌⊑◌, room, Form, At, Good, Filled, Spelled, Rises, Rest, Passed, seq, weaker, good_pure, good_refuse, good_far, good_limited, choice, expect_then, a_word, some_is}
+use Rattle.go_reading.proofs.Good.{Room, ◌⊑◌, room, Form, At, Good, Filled, Spelled, Rises, Rest, Passed, seq, weaker, good_pure, good_refuse, good_far, good_limited, choice, expect_then, a_word, some_is, err_is}
 use Rattle.go_reading.proofs.Rows.{Within, within_rises, some_not_none}
 use Rattle.go_reading.proofs.ExprsGood.{AnyExpr, tall}
 use Rattle.go_reading.proofs.LeadGood.{LeadIs, lead_rises, led_good}
 use Rattle.go_reading.proofs.BareGood.{good_regroup}
 use Rattle.go_reading.proofs.SimpleGood.{simple_good}
-use Rattle.go_reading.proofs.PlainGood.{err_same}
 use Rattle.go_reading.proofs.HeadsGood.{TestOf, test_rises, expr_here, maybe_before_good}
 use Rattle.go_reading.proofs.StmtForms.{target_in, IsBare, SimpleLoose, simple_loose_rises, IsForHead, test_is, parts_are, range_is}
 
@@ -104,7 +103,7 @@ module _ {A B : Type 0} (Item : ℕ → A → List Word → Type 0) (R : Form B)
           same = λ s r k. rw (a.same s r k) refl;
           means = (m.0 ++ c.1, c.0, rw append_assoc at c.2, ends_passed e a.front rest m.3);
           filled = λ b db. let l = a.filled b db in let i = fill_rest b db l.0 l.1 l.2 in (i.0, l.1 ++ i.1, i.2);
-          enough = λ lt x. a.enough lt (ap Err (err_same e Exhausted x));
+          enough = λ lt x. a.enough lt (ap Err (err_is e Exhausted x));
         }
 
 -- ---- the last statement

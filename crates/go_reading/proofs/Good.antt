@@ -102,10 +102,10 @@ first_append (t ∷ ts) r rest e = refl
 
 -- ---- the steps
 
-abbrev fault : {B : Type 0} → Fault → Result B Fault
+abbrev pub fault : {B : Type 0} → Fault → Result B Fault
 fault e = Err e
 
-err_is : {B : Type 0} (e f : Fault) → fault {B = B} e ≡ fault f → e ≡ f
+pub err_is : {B : Type 0} (e f : Fault) → fault {B = B} e ≡ fault f → e ≡ f
 err_is e f h = cc
 
 passed_then : {A B : Type 0} (L : Form A) (R : Form B) (d : Room) → Rises L → (x : A) (front : List Word) → L d x front → (f : Fault) (front' rest : List Word) → Passed f d (Rest L R x) front' rest → Passed f d R (front ++ front') rest

@@ -23,7 +23,7 @@ use Rattle.go_reading.proofs.Rows.{within_rises, GroupOf, group_rises, some_not_
 use Rattle.go_reading.proofs.ExprsGood.{ExprOf, expr_rises, expr_good, ExprsOf, exprs_good, an_expr, is_an_expr}
 use Rattle.go_reading.proofs.SpecsGood.{consts_good, vars_good}
 use Rattle.go_reading.proofs.BlockForm.{BlockOf, block_of_rises}
-use Rattle.go_reading.proofs.StmtForms.{StmtIn}
+use Rattle.go_reading.proofs.Loose.{StmtIn}
 use Rattle.go_reading.proofs.Started.{empty_block}
 use Rattle.go_reading.proofs.StmtsGood.{a_return}
 use Rattle.go_reading.proofs.Begun.{begun_expr, begins_some}

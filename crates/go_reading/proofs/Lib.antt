@@ -19,13 +19,16 @@ pub mod FilesRead
 pub mod First
 pub mod Top
 pub mod StmtForms
+pub mod Loose
 pub mod Begun
 pub mod LeadGood
 pub mod BareGood
 pub mod SimpleGood
 pub mod Full
 pub mod Started
+pub mod Alike
 pub mod StmtsGood
+pub mod ListEnds
 pub mod CasesGood
 pub mod IfGood
 pub mod PlainGood

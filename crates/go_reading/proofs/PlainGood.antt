@@ -25,7 +25,7 @@ use Rattle.go_reading.specs.Types.{expr_of}
 use Rattle.go_reading.specs.Exprs.{expr}
 use Rattle.go_reading.specs.Simple.{target_of, eval_stmt, is_plain, lead, bare, stmt_by}
 use Rattle.go_reading.specs.Stmts.{label_by, plain_stmt}
-use Rattle.go_reading.proofs.Good.{Room, ◌⊑◌, up, Form, At, Good, Filled, Rises, Rest, Passed, seq, weaker, good_pure, good_refuse, choice, take_then, a_word, shift}
+use Rattle.go_reading.proofs.Good.{Room, ◌⊑◌, up, Form, At, Good, Filled, Rises, Rest, Passed, seq, weaker, good_pure, good_refuse, choice, take_then, a_word, shift, err_is}
 use Rattle.go_reading.proofs.RowsRead.{is_other}
 use Rattle.go_reading.proofs.TypesGood.{IsQualified, alone, pair, QualifiedOf}
 use Rattle.go_reading.proofs.ExprsGood.{AnyExpr, tall}
@@ -33,7 +33,7 @@ use Rattle.go_reading.proofs.LeadGood.{Under, under_rises, expr_under, LeadIs, l
 use Rattle.go_reading.proofs.BareGood.{Into, simple_loose, Stays, up_by, down_by, by_next, Tail, bare_good, follow_tail, follow_same, named_tail, unnamed_tail, named_bare, unnamed_bare, behind_name, go_on_twice, regroup, reread}
 use Rattle.go_reading.proofs.SimpleGood.{simple_tail, target_is_name, member_target, tail_up, tail_down, tail_stays, stmt_by_good}
 use Rattle.go_reading.proofs.Clauses.{breakable_rises}
-use Rattle.go_reading.proofs.StmtForms.{Loose}
+use Rattle.go_reading.proofs.Loose.{Loose}
 
 loose_of : Into Loose
 loose_of b x w i = (simple' x.1 x.0 w i.0, i.1)
@@ -115,12 +115,6 @@ passed_map g R S d h TooDeep front rest p = (p.0, p.1, p.2, p.3, g p.4, p.5, p.6
 passed_map g R S d h TooMany front rest p = (p.0, p.1, p.2, p.3, g p.4, p.5, p.6, h p.0 p.4 (front ++ p.1 ∷ p.2) p.7)
 passed_map g R S d h Exhausted front rest p = tt
 
-abbrev pub err_of : {B : Type 0} → Fault → Result B Fault
-err_of e = Err e
-
-pub err_same : {B : Type 0} (e f : Fault) → err_of {B = B} e ≡ err_of f → e ≡ f
-err_same e f h = cc
-
 good_map : {A B : Type 0} (N : ℕ) (d : Room) (K : Fault → Type 0) (R : Form A) (S : Form B) (g : A → B) (q : Reader A) (ts : List Word) (v : Result A Fault) (rest : List Word)
     → ((b : Room) (x : A) (w : List Word) → R b x w → S b (g x) w) → At N d K R q ts v rest → At N d K S (q >>= λ x. pure (g x)) ts (go_on v rest (λ x. pure (g x))).0 (go_on v rest (λ x. pure (g x))).1
 good_map N d K R S g q ts (Ok x) rest h a = record {
@@ -137,7 +131,7 @@ good_map N d K R S g q ts (Err f) rest h a = record {
   same = λ st r e. rw (a.same st r e) refl;
   means = (a.means.0, g a.means.1, h d a.means.1 (a.front ++ a.means.0) a.means.2, passed_map g R S d h f a.front rest a.means.3);
   filled = λ b le. let f = a.filled b le in (g f.0, f.1, h b f.0 f.1 f.2);
-  enough = λ lt x. a.enough lt (ap Err (err_same f Exhausted x));
+  enough = λ lt x. a.enough lt (ap Err (err_is f Exhausted x));
 }
 
 -- what the mark leaves

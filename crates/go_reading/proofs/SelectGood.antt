@@ -24,10 +24,12 @@ use Rattle.go_reading.proofs.Good.{Room, ◌⊑◌, up, Form, Good, Filled, Rise
 use Rattle.go_reading.proofs.Rows.{Within, within_rises}
 use Rattle.go_reading.proofs.ExprsGood.{an_expr, is_an_expr}
 use Rattle.go_reading.proofs.Clauses.{comms_rise}
-use Rattle.go_reading.proofs.StmtForms.{Loose, IsCommHead, comm_is, none_is}
+use Rattle.go_reading.proofs.Loose.{Loose}
+use Rattle.go_reading.proofs.StmtForms.{IsCommHead, comm_is, none_is}
 use Rattle.go_reading.proofs.Full.{full_at, good_full}
-use Rattle.go_reading.proofs.StmtsGood.{BodyOf, list_then_good, bind_assoc, go_on_eq, good_eq, good_out_of_turns}
-use Rattle.go_reading.proofs.CasesGood.{EndsClause, at_brace, at_case, at_default, ends_clause}
+use Rattle.go_reading.proofs.Alike.{bind_assoc, good_eq, good_out_of_turns, go_on_eq}
+use Rattle.go_reading.proofs.StmtsGood.{BodyOf, list_then_good}
+use Rattle.go_reading.proofs.ListEnds.{EndsClause, at_brace, at_case, at_default, ends_clause}
 use Rattle.go_reading.proofs.CommsGood.{comm_head_good}
 use Rattle.go_reading.proofs.PlainGood.{BreakOf}
 use Rattle.go_reading.proofs.StmtGood.{SelectGood, started_all}

@@ -14,7 +14,7 @@ use Rattle.go_grammar.specs.Terminals as t
 use Rattle.go_grammar.specs.Exprs.{IsExpr, IsExprs, IsMaybe}
 use Rattle.go_grammar.specs.Trees.{stmt_node, expr_node}
 use Rattle.go_grammar.specs.Simple.{IsTarget, IsSimple, IsComm}
-use Rattle.go_grammar.specs.Blocks.{source, IsStmt, IsFirst, IsMaybeSimple, IsRangeNames}
+use Rattle.go_grammar.specs.Blocks.{IsFirst, IsMaybeSimple, IsRangeNames}
 use Rattle.go_reading.specs.declared.header.Header.{Header}
 use Rattle.go_reading.specs.declared.header.ForHead.{ForHead}
 use Rattle.go_reading.specs.declared.header.ForHead.TheVariants as f
@@ -23,16 +23,8 @@ use Rattle.go_reading.specs.Types.{expr_of, expr_form_by, target_of as target_of
 use Rattle.go_reading.specs.Simple.{target_by, target_of, eval_stmt}
 use Rattle.go_reading.specs.Input.{Tall}
 use Rattle.go_reading.proofs.Good.{Room, ◌⊑◌, Form, Rises}
-use Rattle.go_reading.proofs.Clauses.{stmt_rises}
 
 -- ---- statements
-
--- a statement in the room
-abbrev pub StmtIn : Form (Tall Stmt)
-StmtIn b x w = IsStmt source b.1 x.1 x.0 w × (x.1 ≤ b.0)
-
-pub stmt_in_rises : Rises StmtIn
-stmt_in_rises b c le x w s = (stmt_rises source b.1 c.1 le.1 x.1 x.0 w s.0, let h = s.1 in let l = le.0 in omega arith)
 
 abbrev target_in_by : {A B C D E F : Type 0} → StmtForm-F A B C D E F → Option Target
 target_in_by (StmtForm-F.Eval e) = target_of e
@@ -57,18 +49,11 @@ pub record IsBare (b : Room) (x : Stmt) (w : List Word) : Type 0 where
   pub spells : IsTarget 0 target w
   pub some : 1 ≤ b.0
 
--- a statement, in the room or a target alone
-abbrev pub Loose : Form (Tall Stmt)
-Loose b x w = IsStmt source b.1 x.1 x.0 w × ((x.1 ≤ b.0) ⊎ IsBare b x.0 w)
-
-bare_rises : (b c : Room) → b ⊑ c → (x : Tall Stmt) (w : List Word) → ((x.1 ≤ b.0) ⊎ IsBare b x.0 w) → (x.1 ≤ c.0) ⊎ IsBare c x.0 w
+pub bare_rises : (b c : Room) → b ⊑ c → (x : Tall Stmt) (w : List Word) → ((x.1 ≤ b.0) ⊎ IsBare b x.0 w) → (x.1 ≤ c.0) ⊎ IsBare c x.0 w
 bare_rises b c le x w (inl h) = inl (let l = le.0 in omega arith)
 bare_rises b c le x w (inr i) = inr (record { target = i.target; is = i.is; spells = i.spells; some = let s = i.some in let l = le.0 in omega arith })
 
-pub loose_rises : Rises Loose
-loose_rises b c le x w s = (stmt_rises source b.1 c.1 le.1 x.1 x.0 w s.0, bare_rises b c le x w s.1)
-
--- the same of a simple statement
+-- a simple statement, in the room or a target alone
 abbrev pub SimpleLoose : Form (Tall Stmt)
 SimpleLoose b x w = IsSimple x.1 x.0 w × ((x.1 ≤ b.0) ⊎ IsBare b x.0 w)
 

@@ -18,9 +18,10 @@ use Rattle.go_reading.specs.Stmts.{header, if_by, if_in, select_in, breakable_in
 use Rattle.go_reading.proofs.Good.{Room, ◌⊑◌, up, Good, weaker, good_limited, choice, a_word, some_is, shift}
 use Rattle.go_reading.proofs.Rows.{some_not_none}
 use Rattle.go_reading.proofs.BlockForm.{BlockOf, BlockGood}
-use Rattle.go_reading.proofs.StmtForms.{StmtIn, Loose}
+use Rattle.go_reading.proofs.Loose.{StmtIn, Loose}
 use Rattle.go_reading.proofs.Started.{StartsStmt, started, started_by}
-use Rattle.go_reading.proofs.StmtsGood.{loose, a_return, block_in_good, good_eq}
+use Rattle.go_reading.proofs.Alike.{good_eq}
+use Rattle.go_reading.proofs.StmtsGood.{loose, a_return, block_in_good}
 use Rattle.go_reading.proofs.Begun.{begun_expr}
 use Rattle.go_reading.proofs.PlainGood.{BreakOf, plain_in}
 use Rattle.go_reading.proofs.HeadsGood.{header_good}

@@ -19,7 +19,8 @@ use Rattle.go_reading.proofs.SimpleRead.{begun_not}
 use Rattle.go_reading.proofs.PlainRead.{plain_read, label_read}
 use Rattle.go_reading.proofs.HeadsRead.{simple_begins}
 use Rattle.go_reading.proofs.DeclsRead.{block_kind}
-use Rattle.go_reading.proofs.Stops.{if_kind_of, Breaks, is_for, is_switch, is_select, breaks_kind, block_tall, if_tall, breaks_tall, stmt_tall}
+use Rattle.go_reading.proofs.ListEnds.{Breaks, is_for, is_switch, is_select}
+use Rattle.go_reading.proofs.Stops.{if_kind_of, breaks_kind, block_tall, if_tall, breaks_tall, stmt_tall}
 use Rattle.go_reading.proofs.StmtsRead.{StmtReads, BlockReads, block_in_read}
 use Rattle.go_reading.proofs.LeafRead.{break_read, break_to_read, continue_read, continue_to_read, fallthrough_read, const_stmt_read, var_stmt_read, return_none_read, return_some_read, go_read, defer_read, nested_read}
 use Rattle.go_reading.proofs.BreaksRead.{BreakReads, breakable_in_read}

@@ -1,5 +1,5 @@
 -- The readers of statements and blocks are good, if those of their parts are.
-use Rattle.std.proofs.Common.{◌≡◌, ◌||◌, ◌&&◌, ◌≢◌, ◌⊎◌, inl, inr, ℕ, zero, suc, ◌+◌, ◌-◌, ◌≤◌, ◌<◌, max, Bool, true, false, cond, List, [], ◌∷◌, ◌++◌, Option, Some, None, Result, Ok, Err, refl, sym, ap, subst, ◌∙◌, append_assoc, arith, nat_lt, nat_le, if◌then◌else◌}
+use Rattle.std.proofs.Common.{◌≡◌, ◌||◌, ◌&&◌, ◌≢◌, ◌⊎◌, inl, inr, ℕ, zero, suc, ◌+◌, ◌-◌, ◌≤◌, ◌<◌, max, Bool, true, false, cond, List, [], ◌∷◌, ◌++◌, Option, Some, None, refl, sym, ap, subst, ◌∙◌, append_assoc, arith, nat_lt, nat_le, if◌then◌else◌}
 use Rattle.std.proofs.lemmas.List.{append-nil}
 use Rattle.std.proofs.lemmas.Bool.{leb-true, leb-false}
 use Rattle.go_ast.specs.declared.span.Span.{Span}
@@ -17,14 +17,16 @@ use Rattle.go_reading.specs.declared.fault.Fault.{Fault}
 use Rattle.go_reading.specs.declared.fault.Fault.TheVariants.{TooDeep, TooMany, Exhausted}
 use Rattle.go_reading.specs.declared.header.Braced.{Braced}
 use Rattle.go_reading.specs.Kinds.{is, begins, begins_stmt, ends_list}
-use Rattle.go_reading.specs.Input.{Outcome, Reader, go_on, take_as, next, Tall, ◌>>=◌, ◌>>◌, pure, fail, refuse, peek, take_span, expect, kind_of, span_of, if_kind, limited}
+use Rattle.go_reading.specs.Input.{Reader, take_as, next, Tall, ◌>>=◌, ◌>>◌, pure, fail, refuse, peek, take_span, expect, kind_of, span_of, if_kind, limited}
 use Rattle.go_reading.specs.Stmts.{begins_clause, next_from, stmts_from, list, block_in}
-use Rattle.go_reading.proofs.Good.{Room, ◌⊑◌, up, Form, At, Good, Filled, Rises, Rest, seq, weaker, fewer, good_pure, good_refuse, good_exhausted, good_far, choice, by_test, take_then, expect_then, IsTaken, a_word, some_is, same_is, is_is}
+use Rattle.go_reading.proofs.Good.{Room, ◌⊑◌, up, Form, Good, Filled, Rises, Rest, seq, weaker, fewer, good_pure, good_refuse, good_exhausted, good_far, choice, by_test, take_then, expect_then, IsTaken, a_word, some_is, same_is, is_is}
 use Rattle.go_reading.proofs.Full.{Flags, never_full, good_full}
 use Rattle.go_reading.proofs.Started.{StartsStmt, empty_block}
 use Rattle.go_reading.proofs.Clauses.{list_rises}
 use Rattle.go_reading.proofs.BlockForm.{BlockOf}
-use Rattle.go_reading.proofs.StmtForms.{StmtIn, Loose, loose_rises, IsBare, target_in}
+use Rattle.go_reading.proofs.Loose.{StmtIn, Loose, loose_rises}
+use Rattle.go_reading.proofs.StmtForms.{IsBare, target_in}
+use Rattle.go_reading.proofs.Alike.{bind_assoc, go_on_eq, if_bind, limited_bind, good_eq}
 
 -- ---- short statements
 
@@ -140,34 +142,6 @@ filled_by found h c x false e (Some g) f =
 filled_from : (found : List Stmt) (h : ℕ) (c : Room) (x : Tall Stmt) → Filled c (Rest Loose (StmtsFrom found h) x)
 filled_from found h c x = filled_by found h c x (nat_le x.1 c.0) refl (target_in x.0) refl
 
--- ---- a reader in another form
-
-pub bind_assoc : {A B C : Type 0} (v : Result A Fault) (rest : List Word) (f' : A → Reader B) (g : B → Reader C) → go_on (go_on v rest f').0 (go_on v rest f').1 g ≡ go_on v rest (λ x. f' x >>= g)
-bind_assoc (Ok x) rest f' g = refl
-bind_assoc (Err e) rest f' g = refl
-
-if_bind : {A B : Type 0} (b : Bool) (p q : Reader A) (g : A → Reader B) (ts : List Word) → ((cond b p q) >>= g) ts ≡ (cond b (p >>= g) (q >>= g)) ts
-if_bind true p q g ts = refl
-if_bind false p q g ts = refl
-
-limited_bind : {A B : Type 0} (b : Bool) (p : Reader A) (g : A → Reader B) (ts : List Word) → ((cond b (fail TooDeep) p) >>= g) ts ≡ (cond b (fail TooDeep) (p >>= g)) ts
-limited_bind true p g ts = refl
-limited_bind false p g ts = refl
-
-at_eq : {A : Type 0} (N : ℕ) (d : Room) (K : Fault → Type 0) (R : Form A) (q q' : Reader A) (ts : List Word) (v : Result A Fault) (rest : List Word) → ((r : List Word) → q' r ≡ q r) → At N d K R q ts v rest → At N d K R q' ts v rest
-at_eq N d K R q q' ts v rest e a = record { front = a.front; cut = a.cut; same = λ s r k. e (a.front ++ r) ∙ a.same s r k; means = a.means; filled = a.filled; enough = a.enough }
-
-pub good_eq : {A : Type 0} (N : ℕ) (d : Room) (K : Fault → Type 0) (R : Form A) (p p' q q' : Reader A) (ts : List Word) → p' ts ≡ p ts → ((r : List Word) → q' r ≡ q r) → Good N d K R p q ts → Good N d K R p' q' ts
-good_eq {A} N d K R p p' q q' ts e f' a =
-    let P : Outcome A → Type 0 = λ o. At N d K R q' ts o.0 o.1 in
-    subst P (sym e) (at_eq N d K R q q' ts (p ts).0 (p ts).1 f' a)
-
--- a reader without turns
-pub good_out_of_turns : {A : Type 0} (d : Room) (K : Fault → Type 0) (R : Form A) (p q : Reader A) (ts : List Word) → (K Exhausted → ⊥) → ((b : Room) → d ⊑ b → Filled b R) → p ts ≡ (Err Exhausted, ts) → Good 0 d K R p q ts
-good_out_of_turns {A} d K R p q ts never fill e =
-    let P : Outcome A → Type 0 = λ o. At 0 d K R q ts o.0 o.1 in
-    subst P (sym e) (good_exhausted d K R q ts never fill)
-
 -- ---- statements, and what closes their list
 
 next_eq_at : {B : Type 0} (b : Bool) (y : Tall (List Stmt)) (again : Reader (Tall (List Stmt))) (close : Tall (List Stmt) → Reader B) (clause : Bool) (ts : List Word)
@@ -175,10 +149,6 @@ next_eq_at : {B : Type 0} (b : Bool) (y : Tall (List Stmt)) (again : Reader (Tal
 unfolding take_as
 next_eq_at true y again close clause ts = if_bind (ends_list clause (kind_of (next ts))) (pure y) again close (next ts)
 next_eq_at false y again close clause ts = refl
-
-pub go_on_eq : {A B : Type 0} (v : Result A Fault) (rest : List Word) (f' g : A → Reader B) → ((x : A) (r : List Word) → f' x r ≡ g x r) → go_on v rest f' ≡ go_on v rest g
-go_on_eq (Ok x) rest f' g e = e x rest
-go_on_eq (Err y) rest f' g e = refl
 
 -- what stands behind a statement of a list, and what closes the list
 behind_eq : {B : Type 0} (b full : Bool) (c : ℕ) (h : ℕ) (next : Reader (Tall (List Stmt))) (close : Tall (List Stmt) → Reader B) (ts : List Word)

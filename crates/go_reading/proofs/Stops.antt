@@ -11,7 +11,7 @@ use Rattle.go_reading.specs.Kinds.{same, is, begins, begins_stmt, ends_list}
 use Rattle.go_reading.specs.Input.{kind_of}
 use Rattle.go_reading.proofs.Good.{is_is}
 use Rattle.go_reading.proofs.NotCovered.{not_covered}
-use Rattle.go_reading.proofs.CasesGood.{EndsClause, at_brace, at_case, at_default, ends_clause}
+use Rattle.go_reading.proofs.ListEnds.{EndsClause, at_brace, at_case, at_default, ends_clause, Breaks, is_for, is_switch, is_select}
 use Rattle.go_reading.proofs.RowsRead.{kind_is, is_other}
 use Rattle.go_reading.proofs.SpecsRead.{SpecEnds, spec_ends}
 use Rattle.go_reading.proofs.SimpleRead.{StmtEnds, Last, stmt_ends, last_semicolon, last_brace, last_case, last_default}
@@ -95,12 +95,6 @@ value_starts o b = rw b refl
 
 pub if_kind_of : (m h : ℕ) (x : Stmt) (w : List Word) → IsIf source m h x w → (rest : List Word) → kind_of (w ++ rest) ≡ Some t.if_word
 if_kind_of m _ _ _ (if_ k l i j c n end end' first test then other u v w z kk p q b o) rest = kind_is k ((u ++ (v ++ (w ++ z))) ++ rest) t.if_word kk
-
--- a `for`, a `switch` or a `select`
-pub data Breaks (k : TokenKind) : Type 0 where
-  is_for : k ≡ t.for_word → Breaks k
-  is_switch : k ≡ t.switch_word → Breaks k
-  is_select : k ≡ t.select_word → Breaks k
 
 pub breaks_kind : (m h : ℕ) (x : Stmt) (w : List Word) → IsBreakable source m h x w → (rest : List Word) → (k : TokenKind) × (kind_of (w ++ rest) ≡ Some k) × Breaks k
 breaks_kind m _ _ _ (for_test k i j end test body u v kk p b) rest = (k.kind, refl, is_for kk)
