@@ -1,0 +1,9 @@
+pub mod Arranging
+pub mod GoMod
+pub mod GoModLines
+pub mod Graph
+pub mod Marks
+pub mod ModuleFaults
+pub mod Names
+pub mod Paths
+pub mod Searching
