@@ -15,7 +15,6 @@ mod Units
 mod Erasure
 mod Weaving
 mod Scheduled
-mod Growth
 mod Room
 mod Resting
 mod Sums

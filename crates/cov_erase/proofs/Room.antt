@@ -18,6 +18,7 @@ use Rattle.go_meaning.specs.Steps.{arrive_both, arrive_one, count_of, due_item, 
 use Rattle.go_meaning.specs.Erasing.{IsUncounted}
 use Rattle.go_meaning.specs.Units.{counted}
 use Rattle.go_meaning.specs.Histories.{start, replay_from, replay, steps_in, EndIs, EndBy, IsDead, Goes, IsHistory, StandsAt}
+use Rattle.go_meaning.specs.Laws.{AreFew, GoroutinesStayFew}
 use Rattle.cov_erase.specs.Laws.{Short, HistoriesAreShort}
 use Rattle.cov_erase.proofs.Places.{IsPlain}
 use Rattle.cov_erase.proofs.Cover.{IsOther}
@@ -27,7 +28,6 @@ use Rattle.cov_erase.proofs.Stepped.{get_set_same, map_some, IsSettledGoroutine,
 use Rattle.cov_erase.proofs.Counted.{counts, count_some}
 use Rattle.cov_erase.proofs.Totals.{sum_of, total, share, step_changes, count_changes}
 use Rattle.cov_erase.proofs.Histories.{and_then_some, apart_Q, sound_start, goes_reaches}
-use Rattle.cov_erase.proofs.Growth.{AreFew, stay_few}
 
 -- ---- just past a counter
 
@@ -244,14 +244,14 @@ module _ (Q : Parts) where
       more limit k n = omega (arith, n)
   few_steps limit k (Count a u ∷ es) c g h = few_steps limit k es g.0 g.2 h
 
-  few_reached : (es : List Event) (c d : Config) → AreFew c → replay_from Q c es ≡ Some d → AreFew d
+  few_reached : GoroutinesStayFew → (es : List Event) (c d : Config) → AreFew c → replay_from Q c es ≡ Some d → AreFew d
   unfolding replay_from
-  few_reached [] c d h e = let F : Config → Type 0 = AreFew in subst F (same_Some c d e) h
-  few_reached (x ∷ es) c d h e =
+  few_reached few [] c d h e = let F : Config → Type 0 = AreFew in subst F (same_Some c d e) h
+  few_reached few (x ∷ es) c d h e =
       let f = and_then_some (λ z. replay_from Q z es) (step Q c x) d e in
-      few_reached es f.0 d (stay_few Q c h f.0 x f.1) f.2
+      few_reached few es f.0 d (few Q c f.0 x f.1 h) f.2
 
-module _ (P : Parts) (un : IsUncounted P) (limit : ℕ) (es : List Event) (g : IsHistory (counted P) limit es) where
+module _ (few : GoroutinesStayFew) (P : Parts) (un : IsUncounted P) (limit : ℕ) (es : List Event) (g : IsHistory (counted P) limit es) where
   abbrev Q : Parts
   Q = counted P
 
@@ -272,7 +272,7 @@ module _ (P : Parts) (un : IsUncounted P) (limit : ℕ) (es : List Event) (g : I
           let z : past Q go ≡ 0 = past_due Q (apart_Q P un) u (Some go) (sym (ap (due Q) w) ∙ k) in
           let s = sum_less Q d.goroutines i go w z in
           let l = short_to d e in
-          let f = few_reached Q es (start Q) d (omega arith) e in
+          let f = few_reached Q few es (start Q) d (omega arith) e in
           omega (arith, s, l, f)
 
   pub short : Short P limit es
@@ -281,11 +281,11 @@ module _ (P : Parts) (un : IsUncounted P) (limit : ℕ) (es : List Event) (g : I
       let r = goes_reaches P un limit 0 es (start Q) g in
       let l = short_to r.0 r.1 in
       let s = sum_small Q r.0.goroutines in
-      let f = few_reached Q es (start Q) r.0 (omega arith) r.1 in
+      let f = few_reached Q few es (start Q) r.0 (omega arith) r.1 in
       record {
         within = omega (arith, l, s, f);
         room = λ a u h. let F : Option Config → Type 0 = λ x. IfSome x (λ c. due Q (numbered c a) ≡ Some u) in room_at r.0 r.1 a u (subst F r.1 h);
       }
 
-pub histories_are_short : HistoriesAreShort
-histories_are_short P limit c un h = short P un limit c h
+pub histories_are_short : GoroutinesStayFew → HistoriesAreShort
+histories_are_short few P limit c un h = short few P un limit c h

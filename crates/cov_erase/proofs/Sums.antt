@@ -11,8 +11,8 @@ use Rattle.go_meaning.specs.Programs.{Parts}
 use Rattle.go_meaning.specs.Steps.{step, numbered}
 use Rattle.go_meaning.specs.Histories.{start}
 use Rattle.go_meaning.specs.Entries.{unit_of, is_unit, entered, entered_by, entries_from, entered_by_both, unit_entered_by, unit_entries_from}
+use Rattle.go_meaning.specs.Laws.{AreFew, GoroutinesStayFew}
 use Rattle.cov_erase.specs.Laws.{sum_to, EntriesAddUp}
-use Rattle.cov_erase.proofs.Growth.{AreFew, stay_few}
 use Rattle.cov_erase.proofs.Weaving.{apart_step}
 
 -- ---- sums
@@ -98,22 +98,22 @@ module _ (P : Parts) (u : ℕ) where
       ∙ sum_add 256 (at_one a (there c)) (at_one b (there c))
       ∙ ap₂ (λ x y. x + y) (sum_one c a h) (sum_one c b h)
 
-  add_up : (es : List Event) (c : Config) → AreFew c → sum_to 256 (λ g. entries_from P c es g u) ≡ unit_entries_from P c es u
+  add_up : GoroutinesStayFew → (es : List Event) (c : Config) → AreFew c → sum_to 256 (λ g. entries_from P c es g u) ≡ unit_entries_from P c es u
   unfolding entries_from unit_entries_from
-  add_up [] c h = sum_none 256
-  add_up (Step a k b q ∷ es) c h = by (step P c (Step a k b q)) refl (λ d w. add_up es d w)
+  add_up stay [] c h = sum_none 256
+  add_up stay (Step a k b q ∷ es) c h = by (step P c (Step a k b q)) refl (λ d w. add_up stay es d w)
     where
       by : (o : Option Config) → step P c (Step a k b q) ≡ o → ((d : Config) → AreFew d → sum_to 256 (λ g. entries_from P d es g u) ≡ unit_entries_from P d es u) → sum_to 256 (λ g. entered_by P (Step a k b q) g u (λ d. entries_from P d es g u) o) ≡ unit_entered_by P (Step a k b q) u (λ d. unit_entries_from P d es u) o
       by None e more = sum_none 256
       by (Some d) e more =
-          let few = stay_few P c h d (Step a k b q) e in
+          let few = stay P c d (Step a k b q) e h in
           sum_add 256 (λ g. entered P d a b g u) (λ g. entries_from P d es g u)
           ∙ ap₂ (λ x y. x + y) (entered_sum d a b (λ w. apart_step P c d a k b q w e) few) (more d few)
-  add_up (Count a w ∷ es) c h = by (step P c (Count a w)) refl (λ d x. add_up es d x)
+  add_up stay (Count a w ∷ es) c h = by (step P c (Count a w)) refl (λ d x. add_up stay es d x)
     where
       by : (o : Option Config) → step P c (Count a w) ≡ o → ((d : Config) → AreFew d → sum_to 256 (λ g. entries_from P d es g u) ≡ unit_entries_from P d es u) → sum_to 256 (λ g. entered_by P (Count a w) g u (λ d. entries_from P d es g u) o) ≡ unit_entered_by P (Count a w) u (λ d. unit_entries_from P d es u) o
       by None e more = sum_none 256
-      by (Some d) e more = more d (stay_few P c h d (Count a w) e)
+      by (Some d) e more = more d (stay P c d (Count a w) e h)
 
-pub entries_add_up : EntriesAddUp
-entries_add_up P h u = sym (add_up P u h (start P) (omega arith))
+pub entries_add_up : GoroutinesStayFew → EntriesAddUp
+entries_add_up stay P h u = sym (add_up P u stay h (start P) (omega arith))

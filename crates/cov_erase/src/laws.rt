@@ -2,6 +2,8 @@
 
 ghost use Rattle.cov_erase.specs.Laws.{ErasesToProgram, ErasureHolds, WeavingHolds, SerialHolds, HistoriesAreShort, SerialRests, EntriesAddUp};
 
+use go_meaning::laws::goroutines;
+
 /// Counters change nothing. The call does nothing.
 ///
 /// The covered program without its counters is the program. Erasing the counter steps of a covered history leaves a
@@ -19,7 +21,9 @@ pub fn erased()
 /// that there can be; where a goroutine stands at a counter there is room for one event more. The call does nothing.
 pub fn histories_are_short()
     ensures { HistoriesAreShort }
-{}
+{
+    goroutines();
+}
 
 /// The serial history of a covered program is one of its histories, and ends at a rest. The call does nothing.
 pub fn serial_history_rests()
@@ -29,7 +33,9 @@ pub fn serial_history_rests()
 /// The entries of a unit are those by each goroutine. The call does nothing.
 pub fn entries_add_up()
     ensures { EntriesAddUp }
-{}
+{
+    goroutines();
+}
 
 #[cfg(test)]
 mod tests {

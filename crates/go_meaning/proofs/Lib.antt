@@ -7,6 +7,7 @@ mod CounterRows
 mod Shapes
 mod Alike
 mod Standing
+mod Growth
 mod Unique
 mod Covering
 mod Fitting

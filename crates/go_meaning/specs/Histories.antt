@@ -70,6 +70,11 @@ steps_in [] = 0
 steps_in (Step g k p q ∷ es) = suc (steps_in es)
 steps_in (Count g u ∷ es) = steps_in es
 
+-- an event is a counter step
+abbrev pub IsCount : Event → Type 0
+IsCount (Step g k p q) = ⊥
+IsCount (Count g u) = Unit {0}
+
 -- ---- ends
 
 -- no goroutine has a step, and none stands at a counter

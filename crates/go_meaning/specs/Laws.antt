@@ -1,5 +1,5 @@
 -- Laws of steps and histories, over every program.
-use Rattle.std.specs.Prelude.{◌≡◌, ◌≢◌, ◌↔◌, ℕ, ◌<◌, true, List, Option, Some}
+use Rattle.std.specs.Prelude.{◌≡◌, ◌≢◌, ◌↔◌, ℕ, ◌<◌, ◌≤◌, true, List, Option, Some, length}
 use Rattle.go_meaning.specs.declared.event.End.{End}
 use Rattle.go_meaning.specs.declared.event.Event.{Event}
 use Rattle.go_meaning.specs.declared.event.Event.TheVariants.{Count}
@@ -42,6 +42,19 @@ StaysOver = (P : Parts) (c d : Config) (e : Event) (g : ℕ) (go : Goroutine) �
 -- a unit at whose counter a goroutine of a program stands is one of its units
 abbrev pub UnitsAreBelow : Type 0
 UnitsAreBelow = (P : Parts) (c : Config) (g u : ℕ) → IsProgram P → due P (numbered c g) ≡ Some u → u < P.units
+
+-- ---- how many goroutines there are
+
+-- no step takes a goroutine away
+abbrev pub GoroutinesStay : Type 0
+GoroutinesStay = (P : Parts) (c d : Config) (e : Event) → step P c e ≡ Some d → length c.goroutines ≤ length d.goroutines
+
+abbrev pub AreFew : Config → Type 0
+AreFew c = length c.goroutines ≤ 256
+
+-- and there are never more than 256
+abbrev pub GoroutinesStayFew : Type 0
+GoroutinesStayFew = (P : Parts) (c d : Config) (e : Event) → step P c e ≡ Some d → AreFew c → AreFew d
 
 -- ---- the schedule leaves no choice
 

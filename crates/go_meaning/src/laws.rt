@@ -1,7 +1,7 @@
 //! Laws of steps and histories, over every program. The calls do nothing.
 
 ghost use Rattle.go_meaning.specs.Fitting.{ActsFit};
-ghost use Rattle.go_meaning.specs.Laws.{ShapesRunAlike, StandsUntilCounted, StaysOver, UnitsAreBelow, OneSerialHistory, CountedIsProgram, ErasedIsProgram};
+ghost use Rattle.go_meaning.specs.Laws.{ShapesRunAlike, StandsUntilCounted, StaysOver, UnitsAreBelow, GoroutinesStay, GoroutinesStayFew, OneSerialHistory, CountedIsProgram, ErasedIsProgram};
 
 /// Programs that are equal without spans and offsets have the same steps, histories and ends.
 pub fn shapes_run_alike()
@@ -14,6 +14,12 @@ pub fn standing()
     ensures counters { StandsUntilCounted }
     ensures over { StaysOver }
     ensures units { UnitsAreBelow }
+{}
+
+/// A step takes no goroutine away, and there are never more than 256.
+pub fn goroutines()
+    ensures stay { GoroutinesStay }
+    ensures few { GoroutinesStayFew }
 {}
 
 /// A program has at most one serial history under a limit of steps.

@@ -1,5 +1,5 @@
 //! Stacks, ends and laws by hand.
-use crate::laws::{acts_fit, covering, one_serial_history, shapes_run_alike, standing};
+use crate::laws::{acts_fit, covering, goroutines, one_serial_history, shapes_run_alike, standing};
 use crate::{End, Queue, Row, Stack};
 use go_ast::Text;
 use std::test::Fail;
@@ -60,6 +60,7 @@ fn queues(rt: HostRuntime) -> Result<(), Fail> {
 fn ends(rt: HostRuntime) -> Result<(), Fail> {
     shapes_run_alike();
     standing();
+    goroutines();
     one_serial_history();
     covering();
     acts_fit();

@@ -1,9 +1,9 @@
--- There are never more than 256 goroutines.
+-- A step takes no goroutine away, and there are never more than 256.
 use Rattle.std.proofs.Common.{◌≡◌, ℕ, zero, suc, ◌+◌, ◌<◌, ◌≤◌, Bool, true, false, cond, List, [], ◌∷◌, ◌++◌, Option, Some, None, refl, ap, subst, length, arith, length-append}
 use Rattle.std.specs.Prelude.{slice_get, slice_set, nat_lt, take, ◌==◌, option_map, option_and_then}
 use Rattle.std.specs.List.{list_any}
 use Rattle.std.specs.Option.{MatchOption, option_or}
-use Rattle.std.proofs.lemmas.Option.{none-some}
+use Rattle.std.proofs.lemmas.Option.{none-some, same_Some}
 use Rattle.std.proofs.lemmas.Bool.{ltb-true}
 use Rattle.go_meaning.specs.declared.value.Value.{Value}
 use Rattle.go_meaning.specs.declared.value.Channel.{Channel}
@@ -27,7 +27,7 @@ use Rattle.go_meaning.specs.Acts.{act_of}
 use Rattle.go_meaning.specs.Moves.{Move, moved, running, started, new_frame, on_with, stopped, Taken, taken, assigned, called, call, spawn, goroutine_limit, stack_limit, deferred_call, defer, run_deferred, return_from, unwind, put, operands_of}
 use Rattle.go_meaning.specs.Channels.{Side, Neither, Offers, Wants, Defaults, Sides, item_sides, side_at, listed, with_values, send, receive_from, receive, is_ready, lone}
 use Rattle.go_meaning.specs.Steps.{at_zero, on_control, on_frames, alone, arrive, together, arrive_both, counted_at, arrive_one, due, step}
-use Rattle.cov_erase.proofs.Stepped.{map_some, at_some}
+use Rattle.go_meaning.specs.Laws.{AreFew, GoroutinesStay, GoroutinesStayFew}
 
 length_set : {A : Type 0} (xs : List A) (i : ℕ) (v : A) → length (slice_set xs i v) ≡ length xs
 length_set [] zero v = refl
@@ -35,8 +35,12 @@ length_set [] (suc i) v = refl
 length_set (x ∷ xs) zero v = refl
 length_set (x ∷ xs) (suc i) v = ap suc (length_set xs i v)
 
-abbrev pub AreFew : Config → Type 0
-AreFew c = length c.goroutines ≤ 256
+map_some : {A B : Type 0} (f : A → B) (o : Option A) (y : B) → option_map f o ≡ Some y → (x : A) × (o ≡ Some x) × (f x ≡ y)
+map_some f None y e = absurd (none-some y e)
+map_some f (Some x) y e = (x, refl, same_Some (f x) y e)
+
+at_some : {A : Type 0} (P : A → Type 0) (o : Option A) (x : A) → o ≡ Some x → MatchOption o (Unit {0}) P → P x
+at_some P o x e h = let F : Option _ → Type 0 = λ w. MatchOption w (Unit {0}) P in subst F e h
 
 module _ (Q : Parts) (c : Config) (few : AreFew c) where
   -- with those that a move starts
@@ -182,7 +186,7 @@ module _ (Q : Parts) (c : Config) (few : AreFew c) where
       let a = length_set c.goroutines i m.0 in
       subst F m.2 (omega (arith, few, a))
 
-  pub stay_few : (d : Config) (e : Event) → step Q c e ≡ Some d → AreFew d
+  stay_few : (d : Config) (e : Event) → step Q c e ≡ Some d → AreFew d
   unfolding step
   stay_few d (Step zero k p q) e = absurd (none-some d e)
   stay_few d (Step (suc i) k zero zero) e = few_arrived d i k e
@@ -190,3 +194,48 @@ module _ (Q : Parts) (c : Config) (few : AreFew c) where
   stay_few d (Step (suc i) k (suc j) q) e = few_both d i j k q (i == j) e
   stay_few d (Count zero u) e = absurd (none-some d e)
   stay_few d (Count (suc i) u) e = few_counted d i u e
+
+pub goroutines_stay_few : GoroutinesStayFew
+goroutines_stay_few P c d e s few = stay_few P c few d e s
+
+-- ---- none is taken away
+
+module _ (P : Parts) (c d : Config) where
+  abbrev IsMore : Type 0
+  IsMore = length c.goroutines ≤ length d.goroutines
+
+  more_alone : (i k : ℕ) → option_map (arrive c i) (alone P c i k (slice_get c.goroutines i)) ≡ Some d → IsMore
+  more_alone i k e =
+      let m = map_some (arrive c i) (alone P c i k (slice_get c.goroutines i)) d e in
+      let F : Config → Type 0 = λ x. length c.goroutines ≤ length x.goroutines in
+      let a = length-append (slice_set c.goroutines i m.0.after) m.0.born in
+      let b = length_set c.goroutines i m.0.after in
+      subst F m.2 (omega (arith, a, b))
+
+  more_both : (i j k q : ℕ) (b : Bool) → cond b None (option_map (arrive_both c i j) (together P c k q (slice_get c.goroutines i) (slice_get c.goroutines j))) ≡ Some d → IsMore
+  more_both i j k q true e = absurd (none-some d e)
+  more_both i j k q false e =
+      let m = map_some (arrive_both c i j) (together P c k q (slice_get c.goroutines i) (slice_get c.goroutines j)) d e in
+      let F : Config → Type 0 = λ x. length c.goroutines ≤ length x.goroutines in
+      let a = length_set (slice_set c.goroutines i m.0.0) j m.0.1 in
+      let b = length_set c.goroutines i m.0.0 in
+      subst F m.2 (omega (arith, a, b))
+
+  more_counted : (i u : ℕ) → option_map (arrive_one c i) (counted_at u (slice_get c.goroutines i) (due P (slice_get c.goroutines i))) ≡ Some d → IsMore
+  more_counted i u e =
+      let m = map_some (arrive_one c i) (counted_at u (slice_get c.goroutines i) (due P (slice_get c.goroutines i))) d e in
+      let F : Config → Type 0 = λ x. length c.goroutines ≤ length x.goroutines in
+      let a = length_set c.goroutines i m.0 in
+      subst F m.2 (omega (arith, a))
+
+  more : (e : Event) → step P c e ≡ Some d → IsMore
+  unfolding step
+  more (Step zero k p q) e = absurd (none-some d e)
+  more (Step (suc i) k zero zero) e = more_alone i k e
+  more (Step (suc i) k zero (suc q)) e = absurd (none-some d e)
+  more (Step (suc i) k (suc j) q) e = more_both i j k q (i == j) e
+  more (Count zero u) e = absurd (none-some d e)
+  more (Count (suc i) u) e = more_counted i u e
+
+pub goroutines_stay : GoroutinesStay
+goroutines_stay P c d e s = more P c d e s
