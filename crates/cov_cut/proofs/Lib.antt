@@ -11,3 +11,11 @@ pub mod Apart
 pub mod Bare
 pub mod Ends
 pub mod Within
+pub mod Spread
+pub mod ExprSpans
+pub mod LeafSpans
+pub mod Fields
+pub mod BlockSpans
+pub mod TokenSpread
+pub mod Parsed
+pub mod Upto

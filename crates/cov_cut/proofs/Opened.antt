@@ -29,15 +29,15 @@ pub block_is : (b : Block) → block_outline b ≡ block_layer b
 unfolding outline block_outline
 block_is b = fold_out-Block Shape Braced Clause Clause Lists Node form_step block_step case_step comm_step other_step stmt_step b
 
-case_is : (c : CaseClause) → foldC c ≡ case_layer c
+pub case_is : (c : CaseClause) → foldC c ≡ case_layer c
 unfolding outline
 case_is c = fold_out-CaseClause Shape Braced Clause Clause Lists Node form_step block_step case_step comm_step other_step stmt_step c
 
-comm_is : (c : CommClause) → foldM c ≡ comm_layer c
+pub comm_is : (c : CommClause) → foldM c ≡ comm_layer c
 unfolding outline
 comm_is c = fold_out-CommClause Shape Braced Clause Clause Lists Node form_step block_step case_step comm_step other_step stmt_step c
 
-other_is : (o : Other) → foldO o ≡ other_layer o
+pub other_is : (o : Other) → foldO o ≡ other_layer o
 unfolding block_outline
 other_is o =
     fold_out-Other Shape Braced Clause Clause Lists Node form_step block_step case_step comm_step other_step stmt_step o
@@ -54,7 +54,7 @@ comms_are (c ∷ cs) = ap₂ (λ (d : Clause) (more : Lists). next_list (clause 
 body_is : (b : Block) (more : Lists) → bodied (block_outline b).left (body (block_outline b) more) ≡ bodied (block_layer b).left (body (block_layer b) more)
 body_is b more = ap (λ (d : Braced). bodied d.left (body d more)) (block_is b)
 
-layered : (x : StmtForm-F StmtForm Block CaseClause CommClause Other Stmt) → form_step (map-StmtForm StmtForm Block CaseClause CommClause Other Stmt Shape Braced Clause Clause Lists Node form_outline block_outline foldC foldM foldO outline x) ≡ form_layer x
+pub layered : (x : StmtForm-F StmtForm Block CaseClause CommClause Other Stmt) → form_step (map-StmtForm StmtForm Block CaseClause CommClause Other Stmt Shape Braced Clause Clause Lists Node form_outline block_outline foldC foldM foldO outline x) ≡ form_layer x
 unfolding form_outline block_outline outline
 layered (StmtForm-F.Eval e) = refl
 layered (StmtForm-F.Block b) = body_is b no_list

@@ -1,7 +1,13 @@
 //! Laws of units.
-ghost use Rattle.std.specs.Prelude.{◌≡◌, ◌≢◌, ◌+◌, ◌^◌, ◌<◌, ◌≤◌, List, All, AllPairs, length, sum_by};
+ghost use Rattle.std.specs.Prelude.{◌≡◌, ◌≢◌, ◌+◌, ◌^◌, ◌<◌, ◌≤◌, ℕ, List, All, AllPairs, length, sum_by};
 ghost use Rattle.std.specs.List.{flat_map};
 ghost use Rattle.go_ast.specs.declared.file.File.{File};
+ghost use Rattle.go_ast.specs.declared.token.Token.{Token};
+ghost use Rattle.go_ast.specs.Tokens.{HasTokens};
+ghost use Rattle.go_grammar.specs.Words.{words_of};
+ghost use Rattle.go_grammar.specs.Blocks.{source};
+ghost use Rattle.go_grammar.specs.Files.{SpellsWithin};
+ghost use Rattle.cov_cut.specs.Counted.{all_units, else_ifs_of};
 ghost use Rattle.cov_cut.specs.declared.frame.Frame.{Frame};
 ghost use Rattle.go_ast.specs.declared.decl.Func.{Func};
 ghost use Rattle.go_ast.specs.declared.block.Block.{Block};
@@ -35,6 +41,19 @@ pub fn order()
 /// A parsed file whose functions end below 2 ^ 32 can be cut.
 pub fn within()
     ensures { (file : File) → IsPlaced file → All (λ f. f.span.end < 2 ^ 32) (flat_map cut_in file.decls) → IsWithin file }
+{}
+
+/// A file that a source's tokens spell is placed. Its functions and its package's name end in the text.
+pub fn parsed()
+    ensures placed { (most depth : ℕ) (text : List ℕ) (tokens : List Token) (file : File) → HasTokens text tokens → SpellsWithin source most depth file (words_of text tokens) → IsPlaced file }
+    ensures ends { (most depth : ℕ) (text : List ℕ) (tokens : List Token) (file : File) → HasTokens text tokens → SpellsWithin source most depth file (words_of text tokens) → All (λ f. f.span.end ≤ length text) (flat_map cut_in file.decls) }
+    ensures name { (most depth : ℕ) (text : List ℕ) (tokens : List Token) (file : File) → HasTokens text tokens → SpellsWithin source most depth file (words_of text tokens) → file.«package».at + length file.«package».text ≤ length text }
+{}
+
+/// No offset of a placed file's units, nor of an `if` behind an `else`, is past the ends of its functions.
+pub fn bounds()
+    ensures units { (bound : ℕ) (file : File) → IsPlaced file → All (λ f. f.span.end ≤ bound) (flat_map cut_in file.decls) → All (λ u. (u.start ≤ bound) × (u.end ≤ bound) × (u.insert ≤ bound)) (all_units file) }
+    ensures else_ifs { (bound : ℕ) (file : File) → IsPlaced file → All (λ f. f.span.end ≤ bound) (flat_map cut_in file.decls) → All (λ s. (s.start ≤ bound) × (s.end ≤ bound)) (else_ifs_of file) }
 {}
 
 /// The outlines of statements and blocks, by one layer of the tree.
