@@ -4,3 +4,4 @@ pub mod Trailer
 pub mod Covered
 pub mod Reserved
 pub mod Ascending
+pub mod Shuffle

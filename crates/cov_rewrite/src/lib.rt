@@ -3,6 +3,7 @@
 
 mod addition;
 mod covered;
+pub mod laws;
 mod number;
 mod piece;
 mod reserved;
