@@ -1,3 +1,4 @@
+pub mod Endings
 pub mod Literals
 pub mod Placing
 pub mod Steps

@@ -1,18 +1,18 @@
 -- Values of literals.
-use Rattle.std.proofs.Common.{◌≡◌, ◌≢◌, ℕ, zero, suc, ◌+◌, ◌-◌, ◌<◌, ◌≤◌, Bool, true, false, cond, ◌&&◌, ◌||◌, List, [], ◌∷◌, ◌++◌, length, take, drop, get_or, inl, inr, ◌⊎◌, refl, sym, ap, subst, ◌∙◌, arith, nat_eq, nat_le, append_assoc, not, ◌==◌}
-use Rattle.std.proofs.lemmas.Bool.{eqb-true, eq-eqb, leb-true, le-leb}
+use Rattle.std.proofs.Common.{◌≡◌, ◌≢◌, ℕ, zero, suc, ◌+◌, ◌-◌, ◌<◌, ◌≤◌, Bool, true, false, ◌&&◌, List, [], ◌∷◌, ◌++◌, length, take, drop, get_or, inl, inr, refl, sym, ap, subst, ◌∙◌, arith, nat_eq, not, ◌==◌}
+use Rattle.std.proofs.lemmas.Bool.{eqb-true}
 use Rattle.std.proofs.Math.Seq.{drop-append_seam}
 use Rattle.std.proofs.lemmas.List.{length-append, take_at, append-nil, take_rest}
 use Rattle.std.specs.Prelude.{encode_utf8}
 use Rattle.std.specs.List.{list_all, slice_range}
 use Rattle.std.specs.Prelude.{filter}
 use Rattle.std.proofs.lemmas.Bool.Decides.{nat_tests}
-use Rattle.std.specs.Char.{IsScalar, digit_value}
+use Rattle.std.specs.Char.{digit_value}
 use Rattle.std.specs.Str.{IsUtf8, chars}
 use Rattle.std.proofs.lemmas.Str.{IsUtf8-encode, length-encode, len_utf8_bounds, inside_one}
-use Rattle.go_ast.specs.Numbers.{is_octal, is_hex, value_from}
-use Rattle.go_ast.specs.Literals.{inner, is_escape, is_meant, escape_len, is_simple, IsItem, AreItems, IsQuotedBody, IsRuneBody}
-use Rattle.go_grammar.specs.Values.{unescape_from, escape_bytes, escape_value, simple_value, digits_of, first_of, rest_of, rune_of, rune_value, text_value}
+use Rattle.go_ast.specs.Numbers.{is_hex, value_from}
+use Rattle.go_ast.specs.Literals.{inner, is_escape, is_meant, escape_len, IsItem, AreItems, IsQuotedBody, IsRuneBody}
+use Rattle.go_grammar.specs.Values.{unescape_from, escape_bytes, escape_value, first_of, rune_of, text_value}
 use Rattle.go_parse.specs.Placed.{IsEscape, IsTextLiteral}
 
 both : (a b : Bool) → (a && b) ≡ true → (a ≡ true) × (b ≡ true)

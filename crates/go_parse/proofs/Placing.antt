@@ -1,5 +1,5 @@
 -- The tokens of a text stand in it, and their literals have values.
-use Rattle.std.proofs.Common.{◌≡◌, ℕ, suc, ◌+◌, ◌-◌, ◌≤◌, List, [], ◌∷◌, ◌++◌, length, take, drop, get_or, Option, Some, None, true, false, Bool, cond, inl, inr, refl, sym, ap, subst, ◌∙◌, arith, append_assoc}
+use Rattle.std.proofs.Common.{◌≡◌, ℕ, ◌+◌, ◌-◌, ◌≤◌, List, [], ◌∷◌, ◌++◌, length, take, drop, get_or, Option, Some, None, true, false, Bool, cond, inl, inr, refl, sym, ap, subst, ◌∙◌, arith, append_assoc}
 use Rattle.std.proofs.Math.Seq.{drop-append_seam}
 use Rattle.std.proofs.lemmas.List.{take_at, length-append}
 use Rattle.std.specs.List.{AllByRecursion, slice_range}
@@ -11,7 +11,7 @@ use Rattle.go_ast.specs.declared.token.TokenKind.TheVariants as kind
 use Rattle.go_ast.specs.Words.{keywords, place_in}
 use Rattle.go_ast.specs.Literals.{inner, IsRuneBody}
 use Rattle.go_ast.specs.Pieces.{Piece, Divides, HasForm, IsMeant}
-use Rattle.go_ast.specs.Tokens.{HasTokens, tokens_from, tokens_by, token_of, token, inserted, kind_of, word_kind, needed_after, needed_behind, ends_line}
+use Rattle.go_ast.specs.Tokens.{HasTokens, tokens_from, tokens_by, token_of, inserted, kind_of, word_kind, needed_after, needed_behind, ends_line}
 use Rattle.go_grammar.specs.Words.{Word, words_of}
 use Rattle.go_reading.specs.Input as input
 use Rattle.go_parse.specs.Placed.{IsPlaced, ArePlaced, IsLiteral, IsTextLiteral}

@@ -1,8 +1,11 @@
 -- Steps of loops and of readers that call themselves.
-use Rattle.std.proofs.Common.{◌≡◌, ◌≢◌, ℕ, zero, suc, ◌-◌, ◌<◌, ◌+◌, refl, ap, arith, sym, ◌∙◌, true, Option, Some, None}
+use Rattle.std.proofs.Common.{◌≡◌, ◌≢◌, ℕ, zero, suc, ◌-◌, ◌<◌, ◌+◌, refl, ap, arith, sym, ◌∙◌, true, Option, Some, None, List, Ok}
 use Rattle.std.proofs.Math.Numerals.{sub-one}
 use Rattle.go_ast.specs.declared.token.TokenKind.{TokenKind}
 use Rattle.go_ast.specs.declared.token.TokenKind.TheVariants as kind
+use Rattle.go_ast.specs.declared.span.Span.{Span}
+use Rattle.go_grammar.specs.Words.{Word}
+use Rattle.go_reading.specs.Input.{kind_of, take_as, take_span, expect_as, expect}
 use Rattle.go_reading.specs.Kinds.{is}
 use Rattle.go_reading.specs.Exprs.{expr, deeper}
 use Rattle.go_reading.specs.Types.{type_, type_in}
@@ -40,3 +43,8 @@ is_text (Some kind.Rune) e = absurd cc
 is_text (Some kind.Text) e = refl
 is_text (Some (kind.Keyword place)) e = absurd cc
 is_text (Some (kind.Operator place)) e = absurd cc
+
+-- what is seen may be taken as what is expected
+pub expect_taken : (wanted : TokenKind) (ts rest : List Word) (span : Span) → is (kind_of ts) wanted ≡ true → take_span ts ≡ (Ok span, rest) → expect wanted ts ≡ (Ok span, rest)
+unfolding expect_as take_as
+expect_taken wanted ts rest span sees e = rw sees e

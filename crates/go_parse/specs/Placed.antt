@@ -1,5 +1,5 @@
 -- Tokens that stand in their text, with literals that have a value.
-use Rattle.std.specs.Prelude.{◌≡◌, ◌⊎◌, ℕ, ◌≤◌, true, List, [], ◌∷◌, length, slice_range}
+use Rattle.std.specs.Prelude.{◌≡◌, ◌⊎◌, ℕ, ◌≤◌, true, List, ◌∷◌, length, slice_range}
 use Rattle.std.specs.List.{AllByRecursion}
 use Rattle.go_ast.specs.declared.token.Token.{Token}
 use Rattle.go_ast.specs.declared.token.TokenKind.{TokenKind}

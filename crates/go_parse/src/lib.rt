@@ -1,13 +1,20 @@
 //! Trees of Go sources.
 #![tactic(auto)]
 
+mod bounds;
 mod cursor;
+mod ends;
+mod expr;
 mod fault;
 mod form;
 mod kind;
 mod literal;
 mod names;
+mod node;
+mod params;
 mod qualified;
+mod spec;
+mod targets;
 mod types;
 mod words;
 

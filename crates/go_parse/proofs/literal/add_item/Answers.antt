@@ -1,7 +1,7 @@
-use Rattle.std.proofs.Common.{◌≡◌, ◌≢◌, ◌≤◌, ◌<◌, ◌++◌, List, ℕ, length, get_or, rules, arith, sym, ◌∙◌, ap, subst, append_assoc, drop, slice_range, refl}
+use Rattle.std.proofs.Common.{◌<◌, ◌++◌, List, ℕ, length, get_or, rules, arith, sym, ◌∙◌, ap, append_assoc, drop, slice_range, refl}
 use Rattle.std.proofs.lemmas.Grind.{common_steps}
 use Rattle.go_grammar.specs.Values.{unescape_from, escape_bytes}
-use Rattle.go_parse.proofs.Literals.{plain_rest, plain_value, escape_front, IsEscapeFront}
+use Rattle.go_parse.proofs.Literals.{plain_rest, plain_value, escape_front}
 use Rattle.go_parse.proofs.literal.add_item.Goals as goal
 
 pub returns-then-bytes-ne92-clause-rest : goal.returns-then-bytes-ne92-clause-rest

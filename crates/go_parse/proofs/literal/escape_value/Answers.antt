@@ -1,4 +1,4 @@
-use Rattle.std.proofs.Common.{◌≡◌, ℕ, subst, sym, arith}
+use Rattle.std.proofs.Common.{ℕ, subst, arith}
 use Rattle.go_parse.specs.Placed.{IsEscape}
 use Rattle.go_parse.proofs.Literals.{hex_byte}
 use Rattle.go_parse.proofs.literal.escape_value.Goals as goal

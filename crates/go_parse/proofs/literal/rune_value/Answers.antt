@@ -1,5 +1,5 @@
-use Rattle.std.proofs.Common.{◌≡◌, ◌≢◌, ◌≤◌, ◌<◌, length, get_or, rules, arith, sym, ◌∙◌, ap, subst}
-use Rattle.go_ast.specs.Literals.{inner, IsRuneBody}
+use Rattle.std.proofs.Common.{◌<◌, length, rules, arith, sym, ◌∙◌, ap, subst}
+use Rattle.go_ast.specs.Literals.{IsRuneBody}
 use Rattle.go_grammar.specs.Values.{rune_of}
 use Rattle.go_parse.proofs.Literals.{rune_some, rune_text, rune_escape, rune_character}
 use Rattle.go_parse.proofs.literal.rune_value.Goals as goal

@@ -1,4 +1,4 @@
-use Rattle.std.proofs.Common.{◌≡◌, ◌≢◌, ◌<◌, length, rules, arith, sym, ◌∙◌, ap, subst}
+use Rattle.std.proofs.Common.{rules, arith, sym, subst}
 use Rattle.std.proofs.lemmas.Grind.{common_steps}
 use Rattle.go_ast.specs.Literals.{IsQuotedBody}
 use Rattle.go_parse.proofs.Literals.{text_some, text_raw, text_quoted, quoted_body}

@@ -1,5 +1,4 @@
-use Rattle.std.proofs.Common.{◌≡◌, ◌-◌, [], List}
-use Rattle.go_ast.specs.declared.name.Name.{Name}
+use Rattle.std.proofs.Common.{◌≡◌, ◌-◌, []}
 use Rattle.go_grammar.specs.Terminals as t
 use Rattle.go_reading.specs.Lists.{row_from}
 use Rattle.go_reading.specs.Types.{name_item}

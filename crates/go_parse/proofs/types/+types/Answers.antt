@@ -1,5 +1,3 @@
-use Rattle.std.proofs.Common.{rules, arith}
-use Rattle.std.proofs.lemmas.Grind.{common_steps}
 use Rattle.go_parse.proofs.Steps.{type_inner}
 use Rattle.go_parse.proofs.types.+types.Goals as goal
 

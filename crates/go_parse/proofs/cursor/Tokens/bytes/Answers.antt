@@ -1,4 +1,4 @@
-use Rattle.std.proofs.Common.{rules, arith, ◌∙◌}
+use Rattle.std.proofs.Common.{rules}
 use Rattle.go_parse.proofs.Placing.{first_placed, no_token, rune_next, text_next}
 use Rattle.go_parse.proofs.cursor.Tokens.bytes.Goals as goal
 

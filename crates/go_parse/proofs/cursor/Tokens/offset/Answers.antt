@@ -1,4 +1,4 @@
-use Rattle.std.proofs.Common.{rules, arith}
+use Rattle.std.proofs.Common.{rules}
 use Rattle.go_parse.proofs.cursor.Tokens.offset.Goals as goal
 
 pub overflow_cast-result : goal.overflow_cast-result
