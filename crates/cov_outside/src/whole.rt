@@ -1,5 +1,5 @@
 //! Whole files.
-ghost use Rattle.std.specs.Prelude.{◌≡◌, IfSome};
+ghost use Rattle.std.specs.Prelude.{◌≡◌, ◌≤◌, IfOk, IfSome, length};
 ghost use Rattle.std.specs.FinMap as map;
 ghost use Rattle.cov_outside.specs.Whole.{Finds, whole_file, CountsRead};
 ghost use Rattle.cov_outside.specs.declared.whole.WholeFault.TheVariants.{NoMemory as whole_memory};
@@ -32,6 +32,7 @@ pub fn read_whole<F: Files>(
     limit: u64,
 ) -> Result<Vec<u8>, WholeFault>
     ensures told { IfSome (F.tree files.old) (λ t. Finds (λ v. v.items) result (whole_file limit (map.get t path.now))) }
+    ensures short { IfOk result (λ v. length v.items ≤ limit) }
     ensures same { F.tree files.new ≡ F.tree files.old }
     ensures cause { CountsRead (F.read_faults files.old) (F.read_faults files.new) result }
     ensures puts { F.put_faults files.new ≡ F.put_faults files.old }

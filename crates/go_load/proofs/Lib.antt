@@ -1,8 +1,12 @@
 pub mod Circles
+pub mod Comments
 pub mod Coming
-pub mod Contents
+pub mod Discovering
 pub mod Finding
+pub mod Imports
 pub mod Lines
 pub mod Parts
+pub mod Steps
 pub mod Versions
+pub mod Visiting
 pub mod Ways

@@ -2,7 +2,7 @@
 use Rattle.std.specs.Prelude.{ℕ, ◌-◌, Bool, ◌==◌, ◌&&◌, ◌||◌, not, List, [], ◌∷◌, length, take, drop, map, Option, Some, None, is_some, nat_eq, nat_le, nat_lt, unwrap_or, position, if◌then◌else◌, codes}
 use Rattle.std.specs.List.{list_all, filter_map, slice_split, starts_with, suffix_len}
 use Rattle.std.specs.Cmp.Lexicographic.{pointwise}
-use Rattle.std.specs.Str.Lossy.{utf8_valid_len}
+use Rattle.std.specs.Str.{is_utf8}
 
 -- ---- a line
 
@@ -87,9 +87,6 @@ path_in_lines lines =
 
 abbrev pub is_newline : ℕ → Bool
 is_newline c = c == 10
-
-abbrev pub is_utf8 : List ℕ → Bool
-is_utf8 bytes = utf8_valid_len bytes == length bytes
 
 -- the module path of a `go.mod`, which is UTF-8 text
 abbrev pub path_in : List ℕ → Option (List ℕ)

@@ -5,5 +5,8 @@ pub mod Graph
 pub mod Marks
 pub mod ModuleFaults
 pub mod Names
+pub mod Packages
 pub mod Paths
+pub mod Readings
+pub mod Refusals
 pub mod Searching

@@ -2,7 +2,7 @@
 use Rattle.std.specs.Prelude.{ℕ, Bool, false, ◌&&◌, ◌||◌, not, List, [], ◌∷◌, ◌++◌, length, take, drop, nat_eq, ◌==◌, codes}
 use Rattle.std.specs.List.{list_all, slice_split}
 use Rattle.std.specs.Cmp.Lexicographic.{pointwise}
-use Rattle.go_load.specs.GoMod.{is_utf8}
+use Rattle.std.specs.Str.{is_utf8}
 
 abbrev pub same : List ℕ → List ℕ → Bool
 same a b = pointwise nat_eq a b

@@ -2,6 +2,7 @@
 ghost use Rattle.std.specs.Prelude.{◌≡◌, ◌<◌, IfSome, MatchOption, length, map, position};
 ghost use Rattle.std.specs.Option.{option_copied};
 ghost use Rattle.std.specs.List.{list_all, slice_split};
+ghost use Rattle.std.specs.Str.{is_utf8 as is_text};
 ghost use Rattle.go_load.specs.GoMod as spec;
 ghost use Rattle.go_load.specs.GoMod.{path_in};
 ghost use Rattle.go_load.specs.GoModLines.{IsBad, IsNext};
@@ -183,7 +184,7 @@ fn path_in_lines(text: &[u8]) -> Option<&[u8]>
 }
 
 pub(crate) fn is_utf8(bytes: &[u8]) -> bool
-    ensures { result ≡ spec.is_utf8 bytes.now }
+    ensures { result ≡ is_text bytes.now }
 {
     match from_utf8(bytes) {
         Ok(_) => true,

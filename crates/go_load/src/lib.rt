@@ -1,19 +1,28 @@
 //! Loading modules: `go.mod`, packages and their files, and the order in which imported packages come first.
 #![tactic(auto)]
 
+mod contents;
 mod cycle;
+mod discovery;
 mod go_mod;
 mod graph;
 mod names;
 mod order;
 mod paths;
+mod reader;
+mod refusal;
 mod sorting;
+mod source;
+#[cfg(test)]
+mod tests;
+mod visit;
 
+pub use contents::{Found, Home, Source};
+pub use discovery::discover;
 pub use go_mod::{ModuleFault, module_path};
 pub use graph::Graph;
 pub use names::is_source_name;
 pub use paths::{is_known, is_own};
+pub use reader::{ReadFault, ReadsSource};
+pub use refusal::{LoadKind, LoadRefusal};
 pub use sorting::{Arranged, arrange};
-
-#[cfg(test)]
-mod tests;

@@ -1,7 +1,7 @@
 use Rattle.std.proofs.Common.{◌≡◌, ℕ, false, List, drop, sym, ap, ◌∙◌, add-one}
 use Rattle.std.specs.Prelude.{nat_eq, codes}
 use Rattle.std.specs.List.{starts_with}
-use Rattle.go_load.proofs.Contents.{comment_later}
+use Rattle.go_load.proofs.Comments.{comment_later}
 use Rattle.go_load.proofs.Lines.{rest_is}
 use Rattle.go_load.proofs.go_mod.before_comment.Goals as goal
 
