@@ -2,6 +2,7 @@ pub mod Arranging
 pub mod GoMod
 pub mod GoModLines
 pub mod Graph
+pub mod Homes
 pub mod Marks
 pub mod ModuleFaults
 pub mod Names
