@@ -1,6 +1,8 @@
-use Rattle.std.proofs.Common.{◌≡◌, ℕ, ◌-◌, ◌≤◌, zero, suc, List, [], ◌∷◌, ◌++◌, length, take, drop, reverse, refl, sym, ap, ◌∙◌, arith}
+use Rattle.std.proofs.Common.{◌≡◌, ℕ, ◌+◌, ◌-◌, ◌≤◌, zero, suc, List, [], ◌∷◌, ◌++◌, length, take, drop, reverse, refl, sym, ap, ◌∙◌, append_assoc, arith}
 use Rattle.std.proofs.lemmas.List.{take-append-drop, reverse-append, length-reverse, length-drop}
-use Rattle.std.proofs.Math.Seq.{drop-append_seam, set-append_seam}
+use Rattle.std.proofs.lemmas.List.Edits.{remove-append_right}
+use Rattle.std.proofs.Math.Seq.{drop-append_seam, set-append_seam, take-append_seam}
+use Rattle.std.specs.List.{remove}
 use Rattle.std.specs.Prelude.{slice_set, ◌<◌}
 use Rattle.std.proofs.lemmas.List.{length-append}
 
@@ -35,3 +37,44 @@ drop_one_more (suc n) xs h = let e : suc n - 1 ≡ n = omega arith in rw e (drop
     drop_one zero (x ∷ xs) = refl
     drop_one (suc n) [] = refl
     drop_one (suc n) (x ∷ xs) = drop_one n xs
+
+-- ---- an element that lies under others
+
+split_at : {A : Type 0} (xs : List A) (n : ℕ) → n < length xs → (ys : List A) × (x : A) × (zs : List A) × (xs ≡ ys ++ x ∷ zs) × (length ys ≡ n)
+split_at [] n h = absurd (omega arith)
+split_at (x ∷ xs) zero h = ([], x, xs, refl, refl)
+split_at (x ∷ xs) (suc n) h = let r = split_at xs n (omega arith) in (x ∷ r.0, r.1, r.2, ap (λ l. x ∷ l) r.3, ap suc r.4)
+
+turned : {A : Type 0} (ys : List A) (x : A) (zs : List A) → reverse (ys ++ x ∷ zs) ≡ reverse zs ++ x ∷ reverse ys
+turned ys x zs = reverse-append ys (x ∷ zs) ∙ ap (λ l. l ++ reverse ys) (reverse-append (x ∷ []) zs) ∙ append_assoc (reverse zs) (x ∷ []) (reverse ys)
+
+above : {A : Type 0} (xs ys : List A) (x : A) (zs : List A) (k n : ℕ) → k < length xs → n ≡ length xs - 1 - k → xs ≡ ys ++ x ∷ zs → length ys ≡ n → length (reverse zs) ≡ k
+above xs ys x zs k n h e s l = omega (arith, length-reverse zs, ap length s, length-append ys (x ∷ zs), l, e)
+
+pub set_below : {A : Type 0} (xs : List A) (v : A) (k n : ℕ) → k < length xs → n ≡ length xs - 1 - k → reverse (slice_set xs n v) ≡ slice_set (reverse xs) k v
+set_below xs v k n h e =
+    let r = split_at xs n (omega (arith, e)) in
+    let m = above xs r.0 r.1 r.2 k n h e r.3 r.4 in
+    let left : reverse (slice_set xs n v) ≡ reverse r.2 ++ v ∷ reverse r.0 =
+    ap (λ l. reverse (slice_set l n v)) r.3 ∙ ap (λ i. reverse (slice_set (r.0 ++ r.1 ∷ r.2) i v)) (sym r.4) ∙ ap reverse (set-append_seam r.0 r.1 r.2 v) ∙ turned r.0 v r.2 in
+    let right : slice_set (reverse xs) k v ≡ reverse r.2 ++ v ∷ reverse r.0 =
+    ap (λ l. slice_set (reverse l) k v) r.3 ∙ ap (λ l. slice_set l k v) (turned r.0 r.1 r.2) ∙ ap (λ i. slice_set (reverse r.2 ++ r.1 ∷ reverse r.0) i v) (sym m) ∙ set-append_seam (reverse r.2) r.1 (reverse r.0) v in
+    left ∙ sym right
+
+pub without_below : {A : Type 0} (xs : List A) (k n : ℕ) → k < length xs → n ≡ length xs - 1 - k → reverse (remove xs n) ≡ take k (reverse xs) ++ drop (k + 1) (reverse xs)
+without_below {A = A} xs k n h e =
+    let r = split_at xs n (omega (arith, e)) in
+    let m = above xs r.0 r.1 r.2 k n h e r.3 r.4 in
+    let left : reverse (remove xs n) ≡ reverse r.2 ++ reverse r.0 =
+    ap (λ l. reverse (remove l n)) r.3 ∙ ap reverse (remove-append_right r.0 (r.1 ∷ r.2) n n r.4 (omega arith)) ∙ ap (λ i. reverse (r.0 ++ remove (r.1 ∷ r.2) i)) none ∙ reverse-append r.0 r.2 in
+    let whole : reverse xs ≡ reverse r.2 ++ r.1 ∷ reverse r.0 = ap reverse r.3 ∙ turned r.0 r.1 r.2 in
+    let front : take k (reverse xs) ≡ reverse r.2 = ap (take k) whole ∙ ap (λ i. take i (reverse r.2 ++ r.1 ∷ reverse r.0)) (sym m) ∙ take-append_seam (reverse r.2) (r.1 ∷ reverse r.0) in
+    let back : drop (k + 1) (reverse xs) ≡ reverse r.0 = ap (drop (k + 1)) whole ∙ ap (λ i. drop (i + 1) (reverse r.2 ++ r.1 ∷ reverse r.0)) (sym m) ∙ past_seam (reverse r.2) r.1 (reverse r.0) in
+    left ∙ sym (ap (λ l. l ++ drop (k + 1) (reverse xs)) front ∙ ap (λ l. reverse r.2 ++ l) back)
+  where
+    none : n - n ≡ 0
+    none = omega arith
+
+    past_seam : (ys : List A) (x : A) (zs : List A) → drop (length ys + 1) (ys ++ x ∷ zs) ≡ zs
+    past_seam [] x zs = refl
+    past_seam (y ∷ ys) x zs = let s : length (y ∷ ys) + 1 ≡ suc (length ys + 1) = omega arith in rw s (past_seam ys x zs)

@@ -11,7 +11,7 @@ use sqlite_items::Items;
 #[derive(Debug, Drop)]
 pub struct Call {
     pub function: u64,
-    pub args: Items<Value>,
+    pub args: Row<Value>,
 }
 
 /// A deferred call. A mutex or a wait group is its number.
@@ -21,7 +21,7 @@ pub enum Deferred {
     Done(u64),
     Unlock(u64),
     Close(Value),
-    Println(Items<Value>),
+    Println(Row<Value>),
 }
 
 /// A frame. The top of each stack comes first.

@@ -1,8 +1,8 @@
 //! A queue that contracts see as a list, the oldest element first.
-ghost use Rattle.std.specs.Prelude.{◌≡◌, [], ◌∷◌, ◌++◌, length, slice_get, MatchOption, OnOk, OnErr};
-ghost use Rattle.std.specs.Option.{option_copied};
+ghost use Rattle.std.specs.Prelude.{◌≡◌, [], ◌∷◌, ◌++◌, length, MatchOption, OnOk, OnErr};
+ghost use Rattle.std.specs.Result.{IfErr};
 
-use std::alloc::{AllocError, Global};
+use std::alloc::Global;
 use std::collections::VecDeque;
 use std::marker::Model;
 
@@ -47,12 +47,15 @@ impl<T> Queue<T> {
 }
 
 impl<T: Drop> Queue<T> {
-    /// Adds the newest element. An `Err` changes nothing.
-    pub fn push(&mut self, newest: T) -> Result<(), AllocError>
+    /// Adds the newest element. An `Err` gives it back and changes nothing.
+    pub fn push(&mut self, newest: T) -> Result<(), T>
         ensures ok { OnOk result (self.new ≡ self.old ++ newest ∷ []) }
         ensures err { OnErr result (self.new ≡ self.old) }
+        ensures back { IfErr result (λ x. x ≡ newest) }
     {
-        self.items.push_back(newest)?;
-        Ok(())
+        match self.items.push_back(newest) {
+            Ok(()) => Ok(()),
+            Err(failed) => Err(failed.value),
+        }
     }
 }

@@ -1,5 +1,5 @@
 //! A `Vec` that contracts see as a list, and whose elements are exchanged in place.
-ghost use Rattle.std.specs.Prelude.{◌≡◌, [], ◌∷◌, ◌++◌, ◌<◌, length, slice_get, slice_set, OnOk, OnErr};
+ghost use Rattle.std.specs.Prelude.{◌≡◌, [], ◌∷◌, ◌++◌, ◌<◌, length, slice_get, slice_set, take, OnOk, OnErr};
 ghost use Rattle.std.specs.Option.{option_copied};
 
 use std::alloc::{AllocError, Global};
@@ -24,6 +24,20 @@ impl<T> Model for Row<T> {
 }
 
 impl<T> Row<T> {
+    /// The elements of a `Vec`. It takes no memory.
+    pub fn from_vec(items: Vec<T>) -> Row<T>
+        ensures { result ≡ items.items }
+    {
+        Row { items }
+    }
+
+    /// Its elements. It takes no memory.
+    pub fn into_vec(self) -> Vec<T>
+        ensures { result.items ≡ self }
+    {
+        self.items
+    }
+
     pub fn new(alloc: Global) -> Row<T>
         ensures { result ≡ [] }
     {
@@ -61,6 +75,13 @@ impl<T> Row<T> {
 }
 
 impl<T: Drop> Row<T> {
+    /// Keeps that many elements.
+    pub fn cut(&mut self, len: usize)
+        ensures { self.new ≡ take len self.old }
+    {
+        self.items.truncate(len);
+    }
+
     /// Adds an element at the end. An `Err` changes nothing.
     pub fn push(&mut self, item: T) -> Result<(), AllocError>
         ensures ok { OnOk result (self.new ≡ self.old ++ item ∷ []) }

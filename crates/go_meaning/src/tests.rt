@@ -45,11 +45,11 @@ fn rows(rt: HostRuntime) -> Result<(), Fail> {
 #[test]
 fn queues(rt: HostRuntime) -> Result<(), Fail> {
     let mut queue = Queue::new(rt.alloc());
-    queue.push(1u64)?;
-    queue.push(2)?;
+    assert!(rt; queue.push(1u64).is_ok());
+    assert!(rt; queue.push(2).is_ok());
     assert_eq!(rt; queue.len(), 2);
     assert_eq!(rt; queue.pop(), Some(1));
-    queue.push(3)?;
+    assert!(rt; queue.push(3).is_ok());
     assert_eq!(rt; queue.pop(), Some(2));
     assert_eq!(rt; queue.pop(), Some(3));
     assert_eq!(rt; queue.pop(), None);

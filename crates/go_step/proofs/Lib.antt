@@ -1,4 +1,14 @@
+pub mod Arguments
+pub mod Beginnings
+pub mod Calling
+pub mod Cases
 pub mod Cuts
+pub mod Holes
+pub mod Joining
 pub mod Lines
+pub mod PastMarks
+pub mod Restored
+pub mod Returning
 pub mod Runes
-pub mod Targets
+pub mod Spawning
+pub mod FurtherTargets

@@ -32,7 +32,7 @@ pub fn returned(count: u64, stack: &Stack<Value>) -> Act
 }
 
 // All targets but the first.
-#[tactic(auto, using(crate::proofs::Targets::target_next))]
+#[tactic(auto, using(crate::proofs::FurtherTargets::target_next))]
 fn further(alloc: Global, targets: &Stack<Target>) -> Result<Stack<Target>, AllocError>
     ensures { IfOk result (λ ts. ts ≡ drop 1 targets.now) }
 {
