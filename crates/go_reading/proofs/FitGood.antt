@@ -228,15 +228,15 @@ counter_parts var counter_form.SetForm i = refl
 counter_parts var counter_form.CountForm i = refl
 counter_parts var counter_form.AtomicForm i = refl
 
-last_is : (a : Word) (u : List Word) → last_end a u ≡ end_of a.span.end u
+pub last_is : (a : Word) (u : List Word) → last_end a u ≡ end_of a.span.end u
 last_is a [] = refl
 last_is a (b ∷ u) = last_is b u
 
-end_append : (end : ℕ) (u v : List Word) → end_of end (u ++ v) ≡ end_of (end_of end u) v
+pub end_append : (end : ℕ) (u v : List Word) → end_of end (u ++ v) ≡ end_of (end_of end u) v
 end_append end [] v = refl
 end_append end (w ∷ u) v = end_append w.span.end u v
 
-behind_end : (mode : CounterForm) (v : List Word) → AllFit (behind_index mode) v → (e e' : ℕ) → end_of e v ≡ end_of e' v
+pub behind_end : (mode : CounterForm) (v : List Word) → AllFit (behind_index mode) v → (e e' : ℕ) → end_of e v ≡ end_of e' v
 behind_end counter_form.SetForm [] i e e' = absurd i
 behind_end counter_form.CountForm [] i e e' = absurd i
 behind_end counter_form.AtomicForm [] i e e' = absurd i

@@ -55,3 +55,4 @@ pub mod OneFault
 pub mod Whole
 pub mod OverGood
 pub mod FitGood
+pub mod FitRead
