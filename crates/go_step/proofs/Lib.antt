@@ -12,3 +12,6 @@ pub mod Returning
 pub mod Runes
 pub mod Spawning
 pub mod FurtherTargets
+pub mod Needed
+pub mod Undone
+pub mod Waits

@@ -3,3 +3,5 @@ pub mod Calls
 pub mod Effects
 pub mod Goroutines
 pub mod Puts
+pub mod Needs
+pub mod Ways

@@ -53,14 +53,14 @@ fn values_of(values: &Option<Items<Expr>>) -> &[Expr]
 
 /// A case expression by its number in its `switch`, and the list of its clause.
 #[derive(Clone, Copy)]
-struct Case<'a> {
-    value: &'a Expr,
-    list: u64,
+pub struct Case<'a> {
+    pub value: &'a Expr,
+    pub list: u64,
 }
 
-// The case expression with a number, from 0, in source order.
+/// The case expression with a number, from 0, in source order.
 #[tactic(auto, using(crate::proofs::Cases::case_found, crate::proofs::Cases::case_later))]
-fn case_at(clauses: &[CaseClause], number: u64) -> Option<Case<'_>>
+pub fn case_at(clauses: &[CaseClause], number: u64) -> Option<Case<'_>>
     ensures { option_map (λ case. (case.value.now, case.list)) result ≡ slice_get (acts.cases clauses.now) number }
 {
     let mut left = number;

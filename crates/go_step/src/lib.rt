@@ -20,13 +20,18 @@ pub mod items;
 pub mod locks;
 pub mod loops;
 pub mod marks;
+pub mod needs;
 pub mod operations;
 pub mod output;
 pub mod planning;
 pub mod ranges;
 pub mod returns;
+mod starting;
 pub mod statements;
 pub mod targets;
 pub mod texts;
 pub mod values;
+pub mod ways;
 pub mod worlds;
+
+pub use starting::start;
