@@ -3,6 +3,7 @@ pub mod Beginnings
 pub mod Calling
 pub mod Cases
 pub mod Cuts
+pub mod GoingAlone
 pub mod Holes
 pub mod Joining
 pub mod Lines

@@ -1,6 +1,7 @@
 //! One step of a run of a Go program: what statements, loops, expressions and operations do.
 #![tactic(auto)]
 
+pub mod alone;
 mod answers;
 pub mod arithmetic;
 pub mod beginning;
