@@ -7,3 +7,8 @@ pub mod Literals
 pub mod Names
 pub mod Operands
 pub mod Expressions
+pub mod Walking
+pub mod Scopes
+pub mod Cases
+pub mod Statements
+pub mod Bodies

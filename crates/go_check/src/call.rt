@@ -84,7 +84,7 @@ fn channel(a: Argument) -> Result<Expr, Refusal>
 }
 
 /// A string or a channel.
-fn measurable(a: Argument) -> Result<Expr, Refusal>
+pub fn measurable(a: Argument) -> Result<Expr, Refusal>
     ensures { Gives (spec.measurable a) result }
 {
     if a.kind().is_text() {

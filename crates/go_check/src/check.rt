@@ -230,7 +230,7 @@ pub fn check_value(
 
 /// Values, from left to right.
 #[cycle(check)]
-fn check_values(
+pub fn check_values(
     alloc: Global,
     names: &Names,
     marks: &mut Marks,

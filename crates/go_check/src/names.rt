@@ -1,6 +1,7 @@
 //! What names mean.
 use crate::constant::Constant;
 use crate::kinds::OperandKind;
+use crate::lifo::Lifo;
 use crate::types::ValueType;
 use go_ast::Text;
 use go_meaning::Variable;
@@ -89,7 +90,7 @@ pub struct Names {
     /// The imports of the file by their numbers.
     pub imports: Items<Imported>,
     /// The names of the imports and of the parameters, variables and constants around the place, the innermost last.
-    pub locals: Items<Binding>,
+    pub locals: Lifo<Binding>,
 }
 
 /// Which variables of a function were read and which imports of a file were used, by their numbers.
