@@ -1,4 +1,5 @@
 pub mod Endings
 pub mod Literals
 pub mod Placing
+pub mod Plains
 pub mod Steps

@@ -80,14 +80,6 @@ impl<'a> Tokens<'a> {
         }
     }
 
-    /// The offset of the next token. The end is a token at the length of the text.
-    pub fn offset(&self) -> u32 {
-        match self.rest {
-            [] => self.text.len() as u32,
-            [token, ..] => token.span.start,
-        }
-    }
-
     /// Its bytes.
     fn bytes(&self) -> &'a [u8]
         ensures bytes { result.now ≡ (spec.head self.now).bytes }

@@ -1,5 +1,5 @@
 //! Targets of assignments.
-ghost use Rattle.std.specs.Prelude.{◌≡◌, None, Some, IfOk, MatchResult};
+ghost use Rattle.std.specs.Prelude.{◌≡◌, None, Some, false, IfOk, MatchResult};
 ghost use Rattle.go_reading.specs.Input.{Reads};
 ghost use Rattle.go_grammar.specs.Trees as trees;
 ghost use Rattle.go_reading.specs.Simple as spec;
@@ -23,11 +23,22 @@ pub fn into_target(tree: Expr) -> Result<Target, Expr>
     }
 }
 
-/// Whether an expression is a name.
-pub fn is_name(tree: &Expr) -> bool
-    ensures { result ≡ spec.is_name_target (spec.target_of tree.now) }
+/// The name that an expression is, or else the expression.
+pub fn into_name(tree: Expr) -> Result<Name, Expr>
+    ensures { MatchResult result (λ name. spec.target_of tree ≡ Some (Target.Plain name)) (λ e. (e ≡ tree) × (spec.is_name_target (spec.target_of tree) ≡ false)) }
 {
-    matches!(&tree.form, ExprForm::Plain(_))
+    let Expr { span, form } = tree;
+    match form {
+        ExprForm::Plain(name) => Ok(name),
+        form => Err(Expr { span, form }),
+    }
+}
+
+/// Whether a target is a name.
+pub fn is_name_target(target: &Target) -> bool
+    ensures { result ≡ spec.is_name_target (Some target.now) }
+{
+    matches!(target, Target::Plain(_))
 }
 
 /// The offset of the first byte of a target.
@@ -44,16 +55,14 @@ pub fn target_start(target: &Target) -> u32
 pub fn into_names(alloc: Global, targets: Vec<Target>) -> Result<Option<Items<Name>>, AllocError>
     ensures { IfOk result (λ names. names ≡ spec.plains_of targets.items) }
 {
-    let mut left = targets;
-    let mut names = Vec::new(alloc);
-    while let Some(target) = left.pop() {
+    let mut names = Items::new(alloc);
+    for target in targets {
         match target {
             Target::Plain(name) => names.push(name)?,
             Target::Member(..) => return Ok(None),
         }
     }
-    names.reverse();
-    Ok(Some(Items::from_vec(names)))
+    Ok(Some(names))
 }
 
 /// A further target. One with a `.` can only be assigned to.

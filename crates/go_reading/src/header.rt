@@ -1,6 +1,6 @@
 //! Parts of statements.
 use go_ast::{Block, Expr, Name, Other, Stmt};
-use sqlite_items::Items;
+use sqlite_items::{Boxed, Items};
 
 /// A block, and the offset of its end.
 #[derive(Drop)]
@@ -12,7 +12,7 @@ pub struct Braced {
 /// What stands between `if` or `switch` and its `{`.
 #[derive(Drop)]
 pub struct Header {
-    pub first: Option<Stmt>,
+    pub first: Option<Boxed<Stmt>>,
     pub test: Option<Expr>,
 }
 
@@ -27,6 +27,6 @@ pub struct Else {
 #[derive(Drop)]
 pub enum ForHead {
     Test(Option<Expr>),
-    Parts(Option<Stmt>, Option<Expr>, Option<Stmt>),
+    Parts(Option<Boxed<Stmt>>, Option<Expr>, Option<Boxed<Stmt>>),
     Range(Items<Name>, Expr),
 }
