@@ -51,3 +51,6 @@ pub use operand::{Argument, Operand, Part, Term};
 pub use operator::{Operator, binary_kind, operator_of, unary_kind};
 pub use types::{Basic, ValueType};
 pub use walk::{Enclosing, Label, Place, Position, Walk};
+
+#[cfg(test)]
+mod tests;
