@@ -11,7 +11,7 @@ use sqlite_items::Items;
 use std::alloc::{AllocError, Global};
 
 /// A frame with nothing in it. It takes no memory.
-pub fn empty_frame(alloc: Global) -> Frame {
+pub(crate) fn empty_frame(alloc: Global) -> Frame {
     Frame {
         slots: Items::new(alloc),
         stack: Stack::new(alloc),

@@ -17,7 +17,7 @@ use std::alloc::{AllocError, Global};
 pub const GOROUTINE_LIMIT: usize = 256;
 
 /// A goroutine with nothing in it. It takes no memory.
-pub fn empty_goroutine(alloc: Global) -> Goroutine {
+pub(crate) fn empty_goroutine(alloc: Global) -> Goroutine {
     Goroutine {
         begin: None,
         frames: Stack::new(alloc),
