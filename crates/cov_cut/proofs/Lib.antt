@@ -19,3 +19,5 @@ pub mod BlockSpans
 pub mod TokenSpread
 pub mod Parsed
 pub mod Upto
+pub mod Owned
+pub mod Numbered

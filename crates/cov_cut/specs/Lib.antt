@@ -1,4 +1,5 @@
 pub mod Outline
+pub mod Owners
 pub mod Outlining
 pub mod Units
 pub mod Layers

@@ -18,3 +18,4 @@ mod Scheduled
 mod Room
 mod Resting
 mod Sums
+mod Dropping

@@ -5,3 +5,4 @@ pub mod Covered
 pub mod Reserved
 pub mod Ascending
 pub mod Shuffle
+pub mod Rewriting

@@ -7,6 +7,7 @@ pub mod laws;
 mod number;
 mod piece;
 mod reserved;
+mod rewriting;
 mod trailer;
 mod units;
 mod weaving;
@@ -14,3 +15,7 @@ mod weaving;
 pub use covered::covered_text;
 pub use piece::{Addition, Piece};
 pub use reserved::reserved_name;
+pub use rewriting::rewrite;
+
+#[cfg(test)]
+mod tests;

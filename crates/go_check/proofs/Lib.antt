@@ -1,3 +1,4 @@
 pub mod Literals
 pub mod Layers
 pub mod Exported
+pub mod Depths

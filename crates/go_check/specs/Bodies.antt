@@ -44,6 +44,7 @@ use Rattle.go_check.specs.declared.operand.Term.{Term}
 use Rattle.go_check.specs.declared.operand.Term.TheVariants.{Constant as Fixed}
 use Rattle.go_check.specs.declared.operand.Argument.{Argument}
 use Rattle.go_check.specs.declared.given.Typed.{Typed}
+use Rattle.go_check.specs.declared.given.Ranged.{Ranged}
 use Rattle.go_check.specs.declared.cases.Seen.{Seen}
 use Rattle.go_check.specs.declared.walk.Place.{Place}
 use Rattle.go_check.specs.declared.walk.Place.TheVariants as place
@@ -76,7 +77,7 @@ is_at_colon p left = option_map_or (λ colon. left == colon + 1) p.colon false
 abbrev pub condition : Written → Walking Expr
 condition e = here (value_of Written check e) >>> (λ a. as_walking (rules.into types.flag a))
 
-abbrev pub condition_if : Option Written → Walking (Option Expr)
+unfoldable pub condition_if : Option Written → Walking (Option Expr)
 condition_if None = done None
 condition_if (Some e) = condition e >>> (λ x. done (Some x))
 
@@ -110,6 +111,15 @@ target_at ts k = unwrap_or (slice_get ts k) target.Blank
 abbrev pub range_node : Bool → List Target → Expr → ℕ → NodeForm
 range_node true ts x l = node.RangeText (target_at ts 0) (target_at ts 1) x l
 range_node false ts x l = node.RangeChannel (target_at ts 0) x l
+
+-- what stands behind `range`
+unfoldable pub ranged : ℕ → List Name → Written → Walking Ranged
+ranged at ns e =
+    here (value_of Written check e) >>> (λ a.
+    as_walking (count_names at (length (ranged_types (rules.kind_at a))) ns) >>> (λ _.
+    as_walking (ranged_over a) >>> (λ x.
+    scopes.declare_all ns (ranged_types (rules.kind_at a)) >>> (λ ts.
+    done (record { text = is_text (rules.kind_at a); targets = ts; code = x })))))
 
 -- ---- what the clauses of a `select` wait for
 
@@ -311,21 +321,18 @@ unfoldable pub if_parts : Written → Walking (Option Simple) → Walking ℕ �
 if_parts e first then_list other = first >>> (λ f. condition e >>> (λ x. then_list >>> (λ l. other >>> (λ k. done (node.If f x l k)))))
 
 -- what the last part of a `for` declares is known nowhere else
-unfoldable pub for_parts : Option ℕ → Option Written → Walking (Option Simple) → Walking (Option Simple) → Walking ℕ → Walking NodeForm
-for_parts label e first last body =
-    first >>> (λ f.
-    condition_if e >>> (λ x.
-    scoped last >>> (λ g.
-    within (record { label = label; repeats = true }) body >>> (λ l. done (node.For f x g l)))))
+unfoldable pub last_part : Walking (Option Simple) → Walking (Option Simple)
+last_part p = scoped p
 
-unfoldable pub range_parts : ℕ → Option ℕ → List Name → Written → Walking ℕ → Walking NodeForm
-range_parts at label ns e body =
-    here (value_of Written check e) >>> (λ a.
-    as_walking (count_names at (length (ranged_types (rules.kind_at a))) ns) >>> (λ _.
-    as_walking (ranged_over a) >>> (λ x.
-    scopes.declare_all ns (ranged_types (rules.kind_at a)) >>> (λ ts.
-    within (record { label = label; repeats = true }) body >>> (λ l.
-    done (range_node (is_text (rules.kind_at a)) ts x l))))))
+-- the list of a loop, which `break` and `continue` can leave
+unfoldable pub repeated : Option ℕ → Walking ℕ → Walking ℕ
+repeated label p = within (record { label = label; repeats = true }) p
+
+unfoldable pub for_parts : Option Written → Walking (Option Simple) → Walking (Option Simple) → Walking ℕ → Walking NodeForm
+for_parts e first last body = first >>> (λ f. condition_if e >>> (λ x. last >>> (λ g. body >>> (λ l. done (node.For f x g l)))))
+
+unfoldable pub range_parts : ℕ → List Name → Written → Walking ℕ → Walking NodeForm
+range_parts at ns e body = ranged at ns e >>> (λ r. body >>> (λ l. done (range_node r.text r.targets r.code l)))
 
 -- all clauses have their numbers before the lists that are nested in them
 unfoldable pub switch_parts : Option ℕ → ℕ → Option Written → Walking (Option Simple) → (ValueType → ℕ → Walking (List CaseNode)) → Walking NodeForm
@@ -347,17 +354,23 @@ module _ (B C M O S : Type 0) (block : B → BlockParts) (case : C → CaseParts
   other_of None = done None
   other_of (Some o) = other o >>> (λ l. done (Some l))
 
+  abbrev pub loop_layer : {F : Type 0} → StmtForm-F F B C M O S → FormChecks
+  loop_layer (StmtForm-F.For first e last b) at p =
+      scoped (for_parts e (first_of S stmt first) (last_part (first_of S stmt last)) (repeated p.label (block b).list))
+  loop_layer (StmtForm-F.Range ns e b) at p = scoped (range_parts at ns e (repeated p.label (block b).list))
+  loop_layer x at p = plain_form x at p
+
+  abbrev pub branch_layer : {F : Type 0} → StmtForm-F F B C M O S → FormChecks
+  branch_layer (StmtForm-F.If first e b o) at p = scoped (if_parts e (first_of S stmt first) (block b).list (other_of o))
+  branch_layer (StmtForm-F.Switch first e left cs) at p =
+      scoped (switch_parts p.label (length cs) e (first_of S stmt first) (λ t l. clauses_of C case at t l none_seen cs))
+  branch_layer x at p = loop_layer x at p
+
   abbrev pub form_layer : {F : Type 0} → StmtForm-F F B C M O S → FormChecks
   form_layer (StmtForm-F.Block b) at p = block_at (block b).left p (block b).list
-  form_layer (StmtForm-F.If first e b o) at p = scoped (if_parts e (first_of S stmt first) (block b).list (other_of o))
-  form_layer (StmtForm-F.For first e last b) at p =
-      scoped (for_parts p.label e (first_of S stmt first) (first_of S stmt last) (block b).list)
-  form_layer (StmtForm-F.Range ns e b) at p = scoped (range_parts at p.label ns e (block b).list)
-  form_layer (StmtForm-F.Switch first e left cs) at p =
-      scoped (switch_parts p.label (length cs) e (first_of S stmt first) (λ t l. clauses_of C case at t l none_seen cs))
-  form_layer (StmtForm-F.Select left ms) at p = select_parts p.label (length ms) (λ l. comm_clauses_of M comm at l none_seen ms)
   form_layer (StmtForm-F.Label n s) at p = labelled n p (stmt s)
-  form_layer x at p = plain_form x at p
+  form_layer (StmtForm-F.Select left ms) at p = select_parts p.label (length ms) (λ l. comm_clauses_of M comm at l none_seen ms)
+  form_layer x at p = branch_layer x at p
 
 -- ---- the tree
 
@@ -402,6 +415,12 @@ other_of_tree o = other_of Block CaseClause CommClause Other Stmt block_parts ca
 
 abbrev pub form_of : StmtForm-F StmtForm Block CaseClause CommClause Other Stmt → FormChecks
 form_of = form_layer Block CaseClause CommClause Other Stmt block_parts case_parts comm_parts_of other_parts check_stmt
+
+abbrev pub branch_of : StmtForm-F StmtForm Block CaseClause CommClause Other Stmt → FormChecks
+branch_of = branch_layer Block CaseClause CommClause Other Stmt block_parts case_parts comm_parts_of other_parts check_stmt
+
+abbrev pub loop_of : StmtForm-F StmtForm Block CaseClause CommClause Other Stmt → FormChecks
+loop_of = loop_layer Block CaseClause CommClause Other Stmt block_parts case_parts comm_parts_of other_parts check_stmt
 
 -- the statements of a function, whose parameters share their scope
 abbrev pub body : List Stmt → Walking ℕ

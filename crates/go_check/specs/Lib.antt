@@ -12,3 +12,5 @@ pub mod Scopes
 pub mod Cases
 pub mod Statements
 pub mod Bodies
+pub mod Endings
+pub mod Packages

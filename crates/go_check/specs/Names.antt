@@ -19,6 +19,7 @@ use Rattle.go_check.specs.declared.known.Known.TheVariants as known'
 use Rattle.go_check.specs.declared.names.Meaning.{Meaning}
 use Rattle.go_check.specs.declared.names.Meaning.TheVariants as meaning
 use Rattle.go_check.specs.declared.names.Binding.{Binding}
+use Rattle.go_check.specs.declared.names.Shared.TheVariants as shared
 use Rattle.go_check.specs.declared.names.Standard.{Standard}
 use Rattle.go_check.specs.declared.names.Standard.TheVariants.{Fmt, Os, Strconv, Sync}
 use Rattle.go_check.specs.declared.names.Imported.{Imported}
@@ -49,7 +50,7 @@ known (known'.Type b) = meaning.Type (basic b)
 known (known'.Flag b) = meaning.Constant (Bare untyped.Bool) (Flag b)
 known known'.Nil = meaning.Nil
 known (known'.Callee c) = meaning.Callee c
-known known'.Shared = meaning.Shared
+known (known'.Shared s) = meaning.Shared s
 
 -- the predeclared names
 abbrev pub table : List (List ℕ × Known)
@@ -72,13 +73,9 @@ predeclared = of_table table
 abbrev pub names_of : Names → ℕ → List Binding
 names_of ns p = unwrap_or (slice_get ns.packages p) []
 
--- the names of the present package
-abbrev pub own : Names → List Binding
-own ns = names_of ns (length ns.packages - 1)
-
 -- The innermost meaning: one around the place or in the file, then one of the package, then the predeclared one.
 abbrev pub find : Names → List ℕ → Option Meaning
-find ns name = either (last_named name ns.locals) (either (last_named name (own ns)) (option_map known (predeclared name)))
+find ns name = either (last_named name ns.locals) (either (last_named name ns.own) (option_map known (predeclared name)))
 
 abbrev pub found_at : ℕ → Option Meaning → Checked Meaning
 found_at at (Some x) = Ok x
@@ -114,7 +111,7 @@ abbrev pub standard : Standard → List (List ℕ × Known)
 standard Fmt = (codes "Println", known'.Callee callee.Println) ∷ []
 standard Os = (codes "Exit", known'.Callee callee.Exit) ∷ []
 standard Strconv = (codes "Itoa", known'.Callee callee.Itoa) ∷ []
-standard Sync = (codes "Mutex", known'.Shared) ∷ (codes "WaitGroup", known'.Shared) ∷ []
+standard Sync = (codes "Mutex", known'.Shared shared.Mutex) ∷ (codes "WaitGroup", known'.Shared shared.Group) ∷ []
 
 abbrev pub exported : Name → Option Meaning → Checked Meaning
 exported n None = fault n.at Undeclared

@@ -126,15 +126,19 @@ abbrev pub is_wanted : Option ValueType → ValueType → Bool
 is_wanted None t = true
 is_wanted (Some u) t = types.same t u
 
-abbrev pub fit_all : ℕ → List (Option ValueType) → List ValueType → Checked (Unit {0})
-fit_all at [] ts = Ok tt
-fit_all at (w ∷ ws) [] = Ok tt
-fit_all at (w ∷ ws) (t ∷ ts) = if is_wanted w t then fit_all at ws ts else fault at source.WrongType
+-- a type of what a value at an offset gives is the one that is wanted
+unfoldable pub fit : ℕ → ValueType → Option ValueType → Checked (Unit {0})
+fit at t w = if is_wanted w t then Ok tt else fault at source.WrongType
+
+abbrev pub fit_all : ℕ → List ValueType → List (Option ValueType) → Checked (Unit {0})
+fit_all at [] ws = Ok tt
+fit_all at (t ∷ ts) [] = Ok tt
+fit_all at (t ∷ ts) (w ∷ ws) = and_then (fit at t w) (λ _. fit_all at ts ws)
 
 -- the values with the types that are wanted
 abbrev pub fill : List (Option ValueType) → Given → Checked Filled
 fill ws (Each as') = fill_each ws as'
-fill ws (Whole i ts e) = and_then (fit_all i ws ts) (λ _. Ok (record { codes = e ∷ []; types = ts }))
+fill ws (Whole i ts e) = and_then (fit_all i ts ws) (λ _. Ok (record { codes = e ∷ []; types = ts }))
 
 -- ---- assignments
 

@@ -8,7 +8,7 @@ use crate::call::measurable;
 use crate::check::check_value;
 use crate::declare::is_blank;
 use crate::fault::Refusal;
-use crate::given::Typed;
+use crate::given::{Ranged, Typed};
 use crate::kinds::OperandKind;
 use crate::operand::Argument;
 use crate::types::{Basic, ValueType};
@@ -28,6 +28,7 @@ pub fn condition(alloc: Global, walk: &mut Walk, e: &Written) -> Result<Expr, Re
 }
 
 /// A condition that may be left out.
+#[tactic(auto, unfolding(crate::specs::Bodies::condition_if))]
 pub fn condition_if(
     alloc: Global,
     walk: &mut Walk,
@@ -116,6 +117,30 @@ pub fn count_names(at: u32, count: usize, names: &[Name]) -> Result<(), Refusal>
             }
         }
     }
+}
+
+/// What stands behind `range`, whose statement is at an offset.
+#[tactic(auto, unfolding(crate::specs::Bodies::ranged))]
+pub fn ranged(
+    alloc: Global,
+    walk: &mut Walk,
+    at: u32,
+    names: &[Name],
+    over: &Written,
+) -> Result<Ranged, Refusal>
+    ensures { Walks (spec.ranged at names.now over.now walk.old) result walk.new }
+{
+    let a = check_value(alloc, &walk.names, &mut walk.marks, over)?;
+    let kind = a.kind();
+    let types = ranged_types(alloc, kind)?;
+    count_names(at, types.len(), names)?;
+    let code = ranged_over(a)?;
+    let targets = walk.declare_all(alloc, names, types.as_slice())?;
+    Ok(Ranged {
+        text: kind.is_text(),
+        targets,
+        code,
+    })
 }
 
 fn target_at(targets: &[Target], index: usize) -> Target

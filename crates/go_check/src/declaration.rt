@@ -11,10 +11,58 @@ use crate::kinds::OperandKind;
 use crate::names::{Marks, Meaning, Names};
 use crate::operand::{Argument, Term};
 use crate::types::ValueType;
-use crate::values::type_if;
+use crate::values::{initial, type_if};
 use crate::walk::Walk;
-use go_ast::{ConstSpec, SourceKind};
+use go_ast::{ConstSpec, SourceKind, VarSpec};
+use go_meaning::Assignment;
+use sqlite_items::Items;
 use std::alloc::Global;
+
+/// Variables that share a type and values, in the statement at an offset.
+#[tactic(auto, unfolding(crate::specs::Statements::var_spec))]
+pub fn var_spec(
+    alloc: Global,
+    walk: &mut Walk,
+    at: u32,
+    spec: &VarSpec,
+) -> Result<Assignment, Refusal>
+    ensures { Walks (statements.var_spec at spec.now walk.old) result walk.new }
+{
+    let names = spec.names.as_slice();
+    let wanted = type_if(&walk.names, &mut walk.marks, &spec.kind)?;
+    let values = spec.values.as_slice();
+    let filled = initial(
+        alloc,
+        &walk.names,
+        &mut walk.marks,
+        at,
+        wanted,
+        names.len(),
+        values,
+    )?;
+    let targets = walk.declare_all(alloc, names, filled.types.as_slice())?;
+    Ok(Assignment {
+        targets,
+        values: filled.codes,
+    })
+}
+
+/// The variables of a declaration at an offset.
+pub fn var_specs(
+    alloc: Global,
+    walk: &mut Walk,
+    at: u32,
+    specs: &[VarSpec],
+) -> Result<Items<Assignment>, Refusal>
+    ensures { Walks (statements.var_specs at specs.now walk.old) result walk.new }
+{
+    let mut all = Items::new(alloc);
+    for one in specs {
+        let assignment = var_spec(alloc, walk, at, one)?;
+        all.push(assignment)?;
+    }
+    Ok(all)
+}
 
 /// The kind of a constant with the type that is written, if any.
 fn const_kind(wanted: Option<ValueType>, kind: OperandKind) -> OperandKind

@@ -1,6 +1,7 @@
 //! Faults of checking.
 ghost use Rattle.std.specs.Prelude.{◌≡◌};
 ghost use Rattle.go_check.specs.Checking.{const_kind};
+ghost use Rattle.go_check.specs.declared.fault.PackageRefusal.TheVariants as packages;
 ghost use Rattle.go_check.specs.declared.fault.Refusal.TheVariants as refusal;
 
 use go_ast::{NoMemory, SourceKind};
@@ -42,6 +43,28 @@ impl<T: Drop> From<AllocFailed<T>> for Refusal {
 
     fn from(_e: AllocFailed<T>) -> Refusal {
         Refusal::NoMemory
+    }
+}
+
+/// A broken rule in the file of a package with a number.
+#[derive(Clone, Copy, Debug, PartialEq, Eq)]
+pub struct Placed {
+    pub file: u64,
+    pub fault: Fault,
+}
+
+/// Why a package isn't accepted.
+#[derive(Debug, Drop)]
+pub enum PackageRefusal {
+    At(Placed),
+    NoMemory,
+}
+
+impl From<NoMemory> for PackageRefusal {
+    ghost from_gives = { λ _ e. e ≡ packages.NoMemory };
+
+    fn from(_e: NoMemory) -> PackageRefusal {
+        PackageRefusal::NoMemory
     }
 }
 

@@ -2,7 +2,7 @@
 use crate::operand::Argument;
 use crate::queue::Queue;
 use crate::types::ValueType;
-use go_meaning::{Deferral, Expr};
+use go_meaning::{Deferral, Expr, Target};
 use sqlite_items::Items;
 
 /// The values that are given to places.
@@ -36,5 +36,13 @@ pub struct Deferred {
 #[derive(Debug, Drop)]
 pub struct Typed {
     pub of: ValueType,
+    pub code: Expr,
+}
+
+/// What a `range` goes over, whether that is a string, and what takes what it gives.
+#[derive(Debug, Drop)]
+pub struct Ranged {
+    pub text: bool,
+    pub targets: Items<Target>,
     pub code: Expr,
 }

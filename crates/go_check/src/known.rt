@@ -4,7 +4,7 @@ ghost use Rattle.go_check.specs.Names as spec;
 
 use crate::constant::Constant;
 use crate::kinds::OperandKind;
-use crate::names::{Callee, Meaning};
+use crate::names::{Callee, Meaning, Shared};
 use crate::types::{Basic, ValueType};
 
 /// What a name means that no package of the module declares.
@@ -14,8 +14,7 @@ pub enum Known {
     Flag(bool),
     Nil,
     Callee(Callee),
-    /// `sync.Mutex` and `sync.WaitGroup`
-    Shared,
+    Shared(Shared),
 }
 
 impl Known {
@@ -27,7 +26,7 @@ impl Known {
             Known::Flag(flag) => Meaning::Constant(OperandKind::BOOL, Constant::Flag(flag)),
             Known::Nil => Meaning::Nil,
             Known::Callee(callee) => Meaning::Callee(callee),
-            Known::Shared => Meaning::Shared,
+            Known::Shared(shared) => Meaning::Shared(shared),
         }
     }
 }

@@ -5,7 +5,7 @@ ghost use Rattle.unicode.specs.GeneralCategory.{general_category};
 ghost use Rattle.go_check.specs.Names as spec;
 
 use crate::known::{Known, PREDECLARED};
-use crate::names::{Binding, Callee, Meaning, Standard};
+use crate::names::{Binding, Callee, Meaning, Shared, Standard};
 use std::str;
 use unicode::properties::GeneralCategory;
 
@@ -59,7 +59,10 @@ pub fn standard(library: Standard, name: &[u8]) -> Option<Known>
         Standard::Strconv => of_table(name, &[(b"Itoa", Known::Callee(Callee::Itoa))]),
         Standard::Sync => of_table(
             name,
-            &[(b"Mutex", Known::Shared), (b"WaitGroup", Known::Shared)],
+            &[
+                (b"Mutex", Known::Shared(Shared::Mutex)),
+                (b"WaitGroup", Known::Shared(Shared::Group)),
+            ],
         ),
     }
 }

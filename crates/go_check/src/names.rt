@@ -32,6 +32,15 @@ pub enum Callee {
     Wait(u64),
 }
 
+/// A type that package variables alone have, and no expression.
+#[derive(Clone, Copy, PartialEq, Eq, Debug)]
+pub enum Shared {
+    /// `sync.Mutex`
+    Mutex,
+    /// `sync.WaitGroup`
+    Group,
+}
+
 /// What a name means.
 #[derive(Debug, Drop)]
 pub enum Meaning {
@@ -44,8 +53,7 @@ pub enum Meaning {
     Group(u64),
     Type(ValueType),
     Callee(Callee),
-    /// A type that no expression has: `sync.Mutex` and `sync.WaitGroup`.
-    Shared,
+    Shared(Shared),
     /// The import of the file with that number.
     Import(u64),
 }
@@ -83,8 +91,10 @@ pub struct Signature {
 /// What the names at a place mean.
 #[derive(Debug, Drop)]
 pub struct Names {
-    /// The names of each package up to the present one, which is the last.
-    pub packages: Items<Items<Binding>>,
+    /// The names of each package before the present one.
+    pub packages: Items<Lifo<Binding>>,
+    /// The names of the present package.
+    pub own: Lifo<Binding>,
     /// The functions by their numbers.
     pub signatures: Items<Signature>,
     /// The imports of the file by their numbers.

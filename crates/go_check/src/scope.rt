@@ -26,7 +26,7 @@ impl Meaning {
             Meaning::Group(group) => Meaning::Group(*group),
             Meaning::Type(of) => Meaning::Type(*of),
             Meaning::Callee(callee) => Meaning::Callee(*callee),
-            Meaning::Shared => Meaning::Shared,
+            Meaning::Shared(shared) => Meaning::Shared(*shared),
             Meaning::Import(import) => Meaning::Import(*import),
         })
     }
@@ -53,13 +53,6 @@ impl Names {
         }
     }
 
-    /// The names of the present package.
-    fn own(&self) -> &[Binding]
-        ensures { result.now ≡ spec.own self.now }
-    {
-        self.of_package(self.packages.len().saturating_sub(1))
-    }
-
     /// What a name means.
     #[tactic(auto, unfolding(crate::specs::Names::meaning_of))]
     pub fn meaning_of(&self, name: &Name) -> Result<Meaning, Refusal>
@@ -68,7 +61,7 @@ impl Names {
         if let Some(meaning) = last_named(name.text.bytes(), self.locals.as_slice()) {
             return Ok(meaning.copy()?);
         }
-        if let Some(meaning) = last_named(name.text.bytes(), self.own()) {
+        if let Some(meaning) = last_named(name.text.bytes(), self.own.as_slice()) {
             return Ok(meaning.copy()?);
         }
         found_at(name.at, predeclared(name.text.bytes()))

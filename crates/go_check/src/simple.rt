@@ -16,10 +16,14 @@ use crate::kinds::{OperandKind, Untyped};
 use crate::names::{Marks, Names};
 use crate::operand::{Argument, Operand, Part, Term};
 use crate::operator::{Operator, operator_of};
+use crate::target::{any_new, old_targets};
 use crate::types::ValueType;
+use crate::values::{fill, given};
 use crate::walk::{Place, Walk};
-use go_ast::{BinaryOp, Expr as Written, ExprForm, NoMemory, SourceKind, Target as WrittenTarget};
-use go_meaning::{Deferral, Expr, NodeForm, Op, Simple, Variable};
+use go_ast::{
+    BinaryOp, Expr as Written, ExprForm, Name, NoMemory, SourceKind, Target as WrittenTarget,
+};
+use go_meaning::{Assignment, Deferral, Expr, NodeForm, Op, Simple, Variable};
 use sqlite_items::Items;
 use std::alloc::Global;
 
@@ -35,8 +39,7 @@ impl Place {
     }
 }
 
-/// The types that places ask for.
-pub fn wanted_types(alloc: Global, places: &[Place]) -> Result<Items<Option<ValueType>>, NoMemory>
+fn wanted_types(alloc: Global, places: &[Place]) -> Result<Items<Option<ValueType>>, NoMemory>
     ensures { IfOk result (λ ws. ws ≡ map spec.wanted_by places.now) }
 {
     let mut wanted = Items::new(alloc);
@@ -44,6 +47,68 @@ pub fn wanted_types(alloc: Global, places: &[Place]) -> Result<Items<Option<Valu
         wanted.push(place.wanted())?;
     }
     Ok(wanted)
+}
+
+/// An assignment at an offset.
+#[tactic(auto, unfolding(crate::specs::Statements::assign))]
+pub fn assign(
+    alloc: Global,
+    walk: &mut Walk,
+    at: u32,
+    targets: &[WrittenTarget],
+    es: &[Written],
+) -> Result<Simple, Refusal>
+    ensures { Walks (spec.assign at targets.now es.now walk.old) result walk.new }
+{
+    let places = walk.places_of(alloc, targets)?;
+    let values = given(
+        alloc,
+        &walk.names,
+        &mut walk.marks,
+        true,
+        at,
+        places.len(),
+        es,
+    )?;
+    let wanted = wanted_types(alloc, places.as_slice())?;
+    let filled = fill(alloc, wanted.as_slice(), values)?;
+    Ok(Simple::Assign(Assignment {
+        targets: old_targets(alloc, places.as_slice())?,
+        values: filled.codes,
+    }))
+}
+
+/// `:=` at an offset.
+#[tactic(auto, unfolding(crate::specs::Statements::define))]
+pub fn define(
+    alloc: Global,
+    walk: &mut Walk,
+    at: u32,
+    names: &[Name],
+    es: &[Written],
+) -> Result<Simple, Refusal>
+    ensures { Walks (spec.define at names.now es.now walk.old) result walk.new }
+{
+    let places = walk.defined_places(alloc, names)?;
+    let values = given(
+        alloc,
+        &walk.names,
+        &mut walk.marks,
+        true,
+        at,
+        places.len(),
+        es,
+    )?;
+    if !any_new(places.as_slice()) {
+        return Err(Refusal::at(at, SourceKind::Redeclared));
+    }
+    let wanted = wanted_types(alloc, places.as_slice())?;
+    let filled = fill(alloc, wanted.as_slice(), values)?;
+    let targets = walk.targets_defined(alloc, names, places.as_slice(), filled.types.as_slice())?;
+    Ok(Simple::Assign(Assignment {
+        targets,
+        values: filled.codes,
+    }))
 }
 
 fn is_name_panic(form: &ExprForm) -> bool
@@ -330,7 +395,7 @@ pub fn step(
 }
 
 /// The types, each of which is wanted.
-pub fn all_wanted(alloc: Global, types: &[ValueType]) -> Result<Items<Option<ValueType>>, NoMemory>
+fn all_wanted(alloc: Global, types: &[ValueType]) -> Result<Items<Option<ValueType>>, NoMemory>
     ensures { IfOk result (λ ws. ws ≡ map (λ t. Some t) types.now) }
 {
     let mut wanted = Items::new(alloc);
@@ -338,4 +403,16 @@ pub fn all_wanted(alloc: Global, types: &[ValueType]) -> Result<Items<Option<Val
         wanted.push(Some(*of))?;
     }
     Ok(wanted)
+}
+
+/// `return` at an offset.
+#[tactic(auto, unfolding(crate::specs::Statements::return_of))]
+pub fn return_(alloc: Global, walk: &mut Walk, at: u32, es: &[Written]) -> Result<NodeForm, Refusal>
+    ensures { Walks (spec.return_of at es.now walk.old) result walk.new }
+{
+    let count = walk.results.len();
+    let values = given(alloc, &walk.names, &mut walk.marks, false, at, count, es)?;
+    let wanted = all_wanted(alloc, walk.results.as_slice())?;
+    let filled = fill(alloc, wanted.as_slice(), values)?;
+    Ok(NodeForm::Return(filled.codes, count as u64))
 }

@@ -110,6 +110,7 @@ fn first_fault(alloc: Global, x: Basic, e: &Expr) -> Result<Option<Fault>, Refus
     })?;
     let names = Names {
         packages: Items::new(alloc),
+        own: Lifo::new(alloc),
         signatures: Items::new(alloc),
         imports: Items::new(alloc),
         locals,

@@ -157,8 +157,7 @@ pub fn wanted_type(wanted: Option<ValueType>, a: &Argument) -> ValueType
     }
 }
 
-/// One value for each place, with the types that are wanted.
-pub fn fill_each(
+fn fill_each(
     alloc: Global,
     wanted: &[Option<ValueType>],
     mut of: Queue<Argument>,
@@ -190,8 +189,50 @@ pub fn is_wanted(wanted: Option<ValueType>, of: ValueType) -> bool
     }
 }
 
+/// A type of what a call or a receive at an offset gives is the one that is wanted.
+#[tactic(auto, unfolding(crate::specs::Statements::fit))]
+fn fit(at: u32, of: ValueType, wanted: Option<ValueType>) -> Result<(), Refusal>
+    ensures { Gives (spec.fit at of wanted) result }
+{
+    if is_wanted(wanted, of) {
+        Ok(())
+    } else {
+        Err(Refusal::at(at, SourceKind::WrongType))
+    }
+}
+
+/// Each value of a call or a receive at an offset has the type that is wanted.
+fn fit_all(at: u32, wanted: &[Option<ValueType>], types: &[ValueType]) -> Result<(), Refusal>
+    ensures { Gives (spec.fit_all at types.now wanted.now) result }
+{
+    let mut left = wanted;
+    for of in types {
+        let [want, rest @ ..] = left else {
+            return Ok(());
+        };
+        fit(at, *of, *want)?;
+        left = rest;
+    }
+    Ok(())
+}
+
+/// The values with the types that are wanted.
+pub fn fill(alloc: Global, wanted: &[Option<ValueType>], of: Given) -> Result<Filled, Refusal>
+    ensures { Gives (spec.fill wanted.now of) result }
+{
+    match of {
+        Given::Each(values) => fill_each(alloc, wanted, values),
+        Given::Whole { at, types, code } => {
+            fit_all(at, wanted, types.as_slice())?;
+            let mut codes = Items::new(alloc);
+            codes.push(code)?;
+            Ok(Filled { codes, types })
+        }
+    }
+}
+
 /// So many times the type that is wanted, or that none is.
-pub fn repeated(
+fn repeated(
     alloc: Global,
     wanted: Option<ValueType>,
     count: usize,
@@ -206,7 +247,7 @@ pub fn repeated(
 }
 
 /// Zero values of a type.
-pub fn zeros(alloc: Global, count: usize, of: ValueType) -> Result<Filled, NoMemory>
+fn zeros(alloc: Global, count: usize, of: ValueType) -> Result<Filled, NoMemory>
     ensures { IfOk result (λ f. f ≡ spec.zeros count of) }
 {
     let mut codes = Items::new(alloc);
@@ -229,5 +270,39 @@ pub fn type_if(
     match t {
         Some(t) => Ok(Some(type_of(names, marks, t)?)),
         None => Ok(None),
+    }
+}
+
+fn given_values(
+    alloc: Global,
+    names: &Names,
+    marks: &mut Marks,
+    at: u32,
+    wanted: Option<ValueType>,
+    count: usize,
+    es: &[Written],
+) -> Result<Filled, Refusal>
+    ensures { Checks (spec.given_values at wanted count es.now names.now marks.old) result marks.new }
+{
+    let values = given(alloc, names, marks, true, at, count, es)?;
+    let all = repeated(alloc, wanted, count)?;
+    fill(alloc, all.as_slice(), values)
+}
+
+/// The values with which variables of a declaration begin.
+pub fn initial(
+    alloc: Global,
+    names: &Names,
+    marks: &mut Marks,
+    at: u32,
+    wanted: Option<ValueType>,
+    count: usize,
+    es: &[Written],
+) -> Result<Filled, Refusal>
+    ensures { Checks (spec.initial at wanted count es.now names.now marks.old) result marks.new }
+{
+    match (wanted, es) {
+        (Some(of), []) => Ok(zeros(alloc, count, of)?),
+        (wanted, es) => given_values(alloc, names, marks, at, wanted, count, es),
     }
 }

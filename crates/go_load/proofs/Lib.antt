@@ -5,8 +5,17 @@ pub mod Discovering
 pub mod Finding
 pub mod Imports
 pub mod Lines
+pub mod Marking
+pub mod Meeting
 pub mod Parts
+pub mod Rising
+pub mod Single
+pub mod SingleOrder
+pub mod SinglePackages
+pub mod SingleSource
 pub mod Steps
+pub mod Taking
 pub mod Versions
 pub mod Visiting
 pub mod Ways
+pub mod Whole

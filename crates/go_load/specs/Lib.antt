@@ -3,11 +3,14 @@ pub mod GoMod
 pub mod GoModLines
 pub mod Graph
 pub mod Homes
+pub mod Loading
 pub mod Marks
 pub mod ModuleFaults
 pub mod Names
+pub mod Outcome
 pub mod Packages
 pub mod Paths
 pub mod Readings
 pub mod Refusals
 pub mod Searching
+pub mod Sources

@@ -6,6 +6,7 @@ pub mod Operations
 pub mod Acts
 pub mod Moves
 pub mod Channels
+pub mod Copies
 pub mod Steps
 pub mod Readiness
 pub mod Histories

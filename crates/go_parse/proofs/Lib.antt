@@ -1,5 +1,11 @@
 pub mod Endings
+pub mod Faults
+pub mod Firsts
+pub mod Levels
 pub mod Literals
+pub mod Offsets
+pub mod Opened
 pub mod Placing
 pub mod Plains
 pub mod Steps
+pub mod Verdict

@@ -1,1 +1,4 @@
+pub mod Answers
+pub mod Openings
+pub mod Parts
 pub mod Placed

@@ -50,6 +50,15 @@ pub fn block_of(left: u32, right: u32, list: Items<Stmt>) -> Block
     }
 }
 
+/// A block that is a statement.
+pub fn nested_of(found: Braced) -> Stmt
+    ensures { result ≡ trees.stmt_node (trees.block_left found.block) found.end (StmtForm.Block found.block) }
+{
+    let Braced { block, end } = found;
+    let start = block.left;
+    stmt_of(start, end, StmtForm::Block(block))
+}
+
 /// An `else` that ends at an offset, and its block.
 #[tactic(auto, unfolding(go_grammar::specs::Trees::other_node))]
 pub fn else_of(after: u32, found: Braced) -> Else

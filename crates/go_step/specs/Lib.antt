@@ -6,3 +6,8 @@ pub mod Goroutines
 pub mod Puts
 pub mod Needs
 pub mod Ways
+pub mod Heads
+pub mod Parts
+pub mod Handing
+pub mod Partners
+pub mod FirstSteps

@@ -83,7 +83,7 @@ pub fn meets(config: &Config, way: Way, other: Way) -> bool
     }
 }
 
-fn offer(stack: &Stack<Value>) -> Way
+pub(crate) fn offer(stack: &Stack<Value>) -> Way
     ensures { result ≡ ways.offer stack.now }
 {
     match stack.peek(1) {
@@ -92,7 +92,7 @@ fn offer(stack: &Stack<Value>) -> Way
     }
 }
 
-fn want(stack: &Stack<Value>) -> Way
+pub(crate) fn want(stack: &Stack<Value>) -> Way
     ensures { result ≡ ways.want stack.now }
 {
     match stack.peek(0) {

@@ -1,0 +1,7 @@
+//! Small programs made by hand, for tests and benchmarks.
+#![tactic(auto)]
+
+mod parts;
+mod programs;
+
+pub use programs::{counting, doubling, sending, spinning, working};

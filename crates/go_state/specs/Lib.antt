@@ -1,0 +1,4 @@
+pub mod Laws
+pub mod Remaining
+pub mod Runs
+pub mod Schedule
