@@ -8,8 +8,10 @@ pub mod Lines
 pub mod Marking
 pub mod Meeting
 pub mod Parts
+pub mod Reaching
 pub mod Rising
 pub mod Single
+pub mod SingleCoverable
 pub mod SingleOrder
 pub mod SinglePackages
 pub mod SingleSource

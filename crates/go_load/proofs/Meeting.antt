@@ -21,12 +21,12 @@ use Rattle.go_load.proofs.Imports.{with_texts-append}
 Once : List (List ℕ) → Type 0
 Once texts = (i j : ℕ) (p : List ℕ) → slice_get texts i ≡ Some p → slice_get texts j ≡ Some p → i ≡ j
 
-get_front : (xs ys : List (List ℕ)) (k : ℕ) (p : List ℕ) → slice_get xs k ≡ Some p → slice_get (xs ++ ys) k ≡ Some p
+pub get_front : (xs ys : List (List ℕ)) (k : ℕ) (p : List ℕ) → slice_get xs k ≡ Some p → slice_get (xs ++ ys) k ≡ Some p
 get_front [] ys k p is = cc
 get_front (x ∷ xs) ys zero p is = is
 get_front (x ∷ xs) ys (suc k) p is = get_front xs ys k p is
 
-get_push : (xs : List (List ℕ)) (t : List ℕ) (k : ℕ) (p : List ℕ) → slice_get (xs ++ t ∷ []) k ≡ Some p → (slice_get xs k ≡ Some p) ⊎ ((k ≡ length xs) × (p ≡ t))
+pub get_push : (xs : List (List ℕ)) (t : List ℕ) (k : ℕ) (p : List ℕ) → slice_get (xs ++ t ∷ []) k ≡ Some p → (slice_get xs k ≡ Some p) ⊎ ((k ≡ length xs) × (p ≡ t))
 get_push [] t zero p is = inr (refl, cc)
 get_push [] t (suc k) p is = cc
 get_push (x ∷ xs) t zero p is = inl is
@@ -86,7 +86,7 @@ with_front : (xs : List (List ℕ)) (t : List ℕ) (b : Bool) (k : ℕ) (p : Lis
 with_front xs t true k p is = is
 with_front xs t false k p is = get_front xs (t ∷ []) k p is
 
-texts_front : (xs ts : List (List ℕ)) (k : ℕ) (p : List ℕ) → slice_get xs k ≡ Some p → slice_get (with_texts xs ts) k ≡ Some p
+pub texts_front : (xs ts : List (List ℕ)) (k : ℕ) (p : List ℕ) → slice_get xs k ≡ Some p → slice_get (with_texts xs ts) k ≡ Some p
 texts_front xs [] k p is = is
 texts_front xs (t ∷ ts) k p is = texts_front (with_text xs t) ts k p (with_front xs t (list_any (bytes_eq t) xs) k p is)
 
@@ -97,7 +97,7 @@ met_more home founds others k p is =
     ap (with_texts (home.path ∷ [])) (flat_map-append (own_imports home) founds others) ∙ with_texts-append (home.path ∷ []) (own founds) (own others) in
     subst (λ ts. slice_get ts k ≡ Some p) (sym joined) (texts_front (met home founds) (own others) k p is)
 
-met_later : (home : Home) (founds : List Found) (i j k : ℕ) (p : List ℕ) → i ≤ j → slice_get (met home (take i founds)) k ≡ Some p → slice_get (met home (take j founds)) k ≡ Some p
+pub met_later : (home : Home) (founds : List Found) (i j k : ℕ) (p : List ℕ) → i ≤ j → slice_get (met home (take i founds)) k ≡ Some p → slice_get (met home (take j founds)) k ≡ Some p
 met_later home founds i j k p le is =
     let parts : take i founds ++ drop i (take j founds) ≡ take j founds = ap (λ fs. fs ++ drop i (take j founds)) (sym (take-take i j founds le)) ∙ take-append-drop i (take j founds) in
     subst (λ fs. slice_get (met home fs) k ≡ Some p) parts (met_more home (take i founds) (drop i (take j founds)) k p is)
@@ -111,7 +111,7 @@ path_kept : (flaw : Option LoadRefusal) (found made : Found) → Ok made ≡ or_
 path_kept None found made is = ap (λ f. f.path) (made_same made found is)
 path_kept (Some e) found made is = cc
 
-names_path : (gives : Reading) (t : Tree) (home : Home) (path : List ℕ) (names : List (List ℕ)) (found : Found) → FromNames gives t home path names (Ok found) → found.path ≡ path
+pub names_path : (gives : Reading) (t : Tree) (home : Home) (path : List ℕ) (names : List (List ℕ)) (found : Found) → FromNames gives t home path names (Ok found) → found.path ≡ path
 names_path gives t home path [] found is = cc
 names_path gives t home path (name ∷ names) found (sources, read, made) = path_kept _ _ found made
 

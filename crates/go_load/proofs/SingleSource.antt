@@ -21,14 +21,14 @@ use Rattle.go_load.specs.Sources.{ReadsSources, read_fault}
 use Rattle.go_load.specs.declared.reader.ReadFault.{ReadFault}
 
 -- a fault that isn't want of memory
-IsTold : SourceFault → Type 0
+pub IsTold : SourceFault → Type 0
 IsTold e = IsSaid (Err (read_fault e))
 
 module _ (one_list : (text : List ℕ) (tokens others : List Token) → HasTokens text tokens → HasTokens text others → tokens ≡ others)
     (one_fault : (text : List ℕ) (at other : ℕ) (kind other_kind : LexKind) → IsFault text at kind → IsFault text other other_kind → (at ≡ other) × (kind ≡ other_kind))
     (not_both : (text : List ℕ) (tokens : List Token) (at : ℕ) (kind : LexKind) → HasTokens text tokens → HasFault text at kind → ⊥)
     (one_tree : SpellsOne) (apart : TreeHasNoFault) (one : OneFault) where
-  lex_one : (text : List ℕ) (d e : SourceFault) → IsTold d → IsTold e → IsLexFault text d → IsLexFault text e → d ≡ e
+  pub lex_one : (text : List ℕ) (d e : SourceFault) → IsTold d → IsTold e → IsLexFault text d → IsLexFault text e → d ≡ e
   unfolding IsTold
   lex_one text (fault.At at kind) (fault.At other also) told said p q =
       let same = one_fault text at other p.0 q.0 p.2 q.2 in
@@ -38,20 +38,20 @@ module _ (one_list : (text : List ℕ) (tokens others : List Token) → HasToken
   lex_one text (fault.Limit which) e told said p q = absurd p
   lex_one text fault.NoMemory e told said p q = absurd told
 
-  no_lex_fault : (text : List ℕ) (tokens : List Token) (e : SourceFault) → IsTold e → HasTokens text tokens → IsLexFault text e → ⊥
+  pub no_lex_fault : (text : List ℕ) (tokens : List Token) (e : SourceFault) → IsTold e → HasTokens text tokens → IsLexFault text e → ⊥
   unfolding IsTold
   no_lex_fault text tokens (fault.At at kind) told has p = not_both text tokens at p.0 has p.2.has
   no_lex_fault text tokens (fault.Limit which) told has p = p
   no_lex_fault text tokens fault.NoMemory told has p = told
 
-  no_fault : (text : List ℕ) (tokens : List Token) (tree : File) (e : SourceFault) → IsTold e → SpellsWithin source 1000 1000 tree (words_of text tokens) → IsFaultOf text tokens e → ⊥
+  pub no_fault : (text : List ℕ) (tokens : List Token) (tree : File) (e : SourceFault) → IsTold e → SpellsWithin source 1000 1000 tree (words_of text tokens) → IsFaultOf text tokens e → ⊥
   unfolding IsTold
   no_fault text tokens tree (fault.At at kind) told spells p = apart 1000 1000 p.1.0 (words_of text tokens) tree f.Unexpected spells p.1.1
   no_fault text tokens tree (fault.Limit limit.Depth) told spells p = apart 1000 1000 p.0 (words_of text tokens) tree f.TooDeep spells p.1
   no_fault text tokens tree (fault.Limit limit.SelectClauses) told spells p = apart 1000 1000 p.0 (words_of text tokens) tree f.TooMany spells p.1
   no_fault text tokens tree fault.NoMemory told spells p = told
 
-  fault_one : (text : List ℕ) (tokens : List Token) (d e : SourceFault) → IsTold d → IsTold e → IsFaultOf text tokens d → IsFaultOf text tokens e → d ≡ e
+  pub fault_one : (text : List ℕ) (tokens : List Token) (d e : SourceFault) → IsTold d → IsTold e → IsFaultOf text tokens d → IsFaultOf text tokens e → d ≡ e
   unfolding IsTold
   fault_one text tokens (fault.At at kind) (fault.At other also) told said p q =
       let same = one 1000 1000 p.1.0 q.1.0 (words_of text tokens) f.Unexpected f.Unexpected p.1.1 q.1.1 in
@@ -80,7 +80,7 @@ module _ (one_list : (text : List ℕ) (tokens others : List Token) → HasToken
   no_failure text tree e told (tokens, has, spells) (inr (others, has', p)) =
       no_fault text tokens tree e told spells (subst (λ ts. IsFaultOf text ts e) (sym (one_list text tokens others has has')) p)
 
-  told_by : (r : ReadFault) (e : SourceFault) → IsSaid (Err r) → r ≡ read_fault e → IsTold e
+  pub told_by : (r : ReadFault) (e : SourceFault) → IsSaid (Err r) → r ≡ read_fault e → IsTold e
   unfolding IsTold
   told_by r e said is = subst (λ x. IsSaid (Err x)) is said
 

@@ -1,4 +1,6 @@
 pub mod Arranging
+pub mod CoverNames
+pub mod Coverable
 pub mod GoMod
 pub mod GoModLines
 pub mod Graph
@@ -10,6 +12,7 @@ pub mod Names
 pub mod Outcome
 pub mod Packages
 pub mod Paths
+pub mod Reachable
 pub mod Readings
 pub mod Refusals
 pub mod Searching

@@ -3,6 +3,8 @@
 
 mod by_reader;
 mod contents;
+mod cover_names;
+mod coverable;
 mod cycle;
 mod discovery;
 mod go_mod;
@@ -25,6 +27,8 @@ mod visit;
 
 pub use by_reader::load_by;
 pub use contents::{Found, Home, Source};
+pub use cover_names::is_cover_name;
+pub use coverable::{CoverReader, load_for_cover};
 pub use discovery::discover;
 pub use go_mod::{ModuleFault, module_path};
 pub use graph::Graph;

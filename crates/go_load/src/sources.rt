@@ -17,7 +17,7 @@ use std::alloc::Global;
 #[derive(Clone, Copy, Debug)]
 pub struct SourceReader;
 
-fn read_fault(fault: SourceFault) -> ReadFault
+pub(crate) fn read_fault(fault: SourceFault) -> ReadFault
     ensures { result ≡ spec.read_fault fault }
 {
     match fault {

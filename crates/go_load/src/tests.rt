@@ -1,4 +1,7 @@
-use super::{Arranged, Graph, ModuleFault, arrange, is_known, is_own, is_source_name, module_path};
+use super::{
+    Arranged, Graph, ModuleFault, arrange, is_cover_name, is_known, is_own, is_source_name,
+    module_path,
+};
 use std::alloc::Global;
 use std::test::Fail;
 
@@ -72,6 +75,31 @@ fn source_names(rt: HostRuntime) {
         ("", false),
     ] {
         assert_eq!(rt; is_source_name(name.as_bytes()), read, "{name}");
+    }
+}
+
+#[test]
+fn cover_names(rt: HostRuntime) {
+    for (name, reserved) in [
+        ("GoCover_0", true),
+        ("GoCover_7", true),
+        ("GoCover_10", true),
+        ("GoCover_4294967296", true),
+        ("_cover_atomic_", true),
+        ("_cover_atomic_x", true),
+        ("GoCover", false),
+        ("GoCover_", false),
+        ("GoCover_00", false),
+        ("GoCover_01", false),
+        ("GoCover_1x", false),
+        ("GoCover_x", false),
+        ("GoCover__1", false),
+        ("goCover_1", false),
+        ("xGoCover_1", false),
+        ("_cover_atomic", false),
+        ("x_cover_atomic_", false),
+    ] {
+        assert_eq!(rt; is_cover_name(name.as_bytes()), reserved, "{name}");
     }
 }
 

@@ -1,7 +1,9 @@
 //! Modules of a few files, and what loading them comes to.
 use cov_outside::MemoryFiles;
-use go_load::{LoadKind, LoadRefusal, Loaded, load};
+use go_ast::{Place, SourceKind};
+use go_load::{LoadKind, LoadRefusal, Loaded, load, load_for_cover};
 use std::alloc::{AllocError, Global};
+use std::fmt::Write;
 use std::test::Fail;
 
 fn kind_name(kind: &LoadKind) -> &'static [u8] {
@@ -63,7 +65,7 @@ type Case = (&'static [(&'static str, &'static str)], &'static str);
 
 const MODULE: (&str, &str) = ("m/go.mod", "module e.org/m\n\ngo 1.20\n");
 
-const CASES: [Case; 17] = [
+const CASES: [Case; 24] = [
     (
         &[MODULE, ("m/main.go", "package main\nimport \"fmt\"\n")],
         "e.org/m;",
@@ -164,7 +166,159 @@ const CASES: [Case; 17] = [
         ],
         "fmt;",
     ),
+    (
+        &[
+            ("m/go.mod", "module example.com/m\n"),
+            ("m/m.go", "package main\nimport \"example.com/m/b\"\n"),
+            ("m/b/b.go", "package b\nimport \"example.com/m/a\"\n"),
+            ("m/a/a.go", "package a\nimport \"example.com/m/b\"\n"),
+        ],
+        "Cycle example.com/m/a",
+    ),
+    (
+        &[
+            MODULE,
+            ("m/m.go", "package main\nimport \"fmt\"\n"),
+            ("m/fmt/f.go", "!"),
+        ],
+        "e.org/m;",
+    ),
+    (
+        &[
+            MODULE,
+            ("m/m.go", "package main\nimport \"e.org/m/fmt\"\n"),
+            ("m/fmt/f.go", "package fmt\n"),
+        ],
+        "e.org/m/fmt;e.org/m;",
+    ),
+    (
+        &[
+            MODULE,
+            ("m/a.go", "package p\nimport \"net\"\n"),
+            ("m/b.go", "package q\n"),
+        ],
+        "TwoPackages m",
+    ),
+    (
+        &[MODULE, ("m/a.go", "package p\nimport \"net\"\n")],
+        "NoMain m",
+    ),
+    (
+        &[
+            MODULE,
+            ("m/a.go", "package main\nimport \"e.org/m/x\"\n"),
+            ("m/x/x.go", "package main\nimport \"net\"\n"),
+        ],
+        "ImportsMain e.org/m/x",
+    ),
+    (
+        &[
+            MODULE,
+            ("m/a.go", "package main\nimport \"e.org/m/x\"\n"),
+            (
+                "m/x/x.go",
+                "package x\nimport \"e.org/m/x\"\nimport \"net\"\n",
+            ),
+        ],
+        "UnknownImport net",
+    ),
 ];
+
+// Adds a package of one file, and its import to the text of the importing file.
+fn add_package(
+    alloc: Global,
+    files: &mut MemoryFiles,
+    text: &mut String,
+    number: u32,
+) -> Result<(), Fail> {
+    writeln!(text, "\"e.org/m/p{number}\"")?;
+    let mut path = String::new(alloc);
+    write!(path, "m/p{number}/p.go")?;
+    files.add(&path, b"package p\n")?;
+    Ok(())
+}
+
+// A module whose main package imports so many others.
+fn with_imports(alloc: Global, count: u32) -> Result<MemoryFiles, Fail> {
+    let mut files = files_of(alloc, &[MODULE])?;
+    let mut text = String::new(alloc);
+    writeln!(text, "package main\nimport (")?;
+    for number in 0..count {
+        add_package(alloc, &mut files, &mut text, number)?;
+    }
+    writeln!(text, ")")?;
+    files.add("m/main.go", text.as_bytes())?;
+    Ok(files)
+}
+
+#[test]
+fn most_packages(rt: HostRuntime) -> Result<(), Fail> {
+    let mut files = with_imports(rt.alloc(), 999)?;
+    let loaded = load(rt.alloc(), &mut files, "m").map(|l| l.module.packages.len());
+    assert_eq!(rt; loaded.unwrap_or(0), 1000);
+    Ok(())
+}
+
+#[test]
+fn one_package_more(rt: HostRuntime) -> Result<(), Fail> {
+    let mut files = with_imports(rt.alloc(), 1000)?;
+    let got = shown(rt.alloc(), &mut files)?;
+    assert_eq!(rt; got.as_slice(), b"Limit Packages".as_slice());
+    Ok(())
+}
+
+/// The text of the one file of a module, and the place of the name that its covered text gives a meaning.
+type NameCase = (&'static str, Option<(u32, u32)>);
+
+const NAMES: [NameCase; 6] = [
+    ("package main\nvar GoCover_01 int\n", None),
+    ("package main\nvar GoCover_0 int\n", Some((2, 5))),
+    (
+        "package main\nfunc f() {\n\t_cover_atomic_x()\n}\n",
+        Some((3, 2)),
+    ),
+    ("package main\n) GoCover_10\n", Some((2, 3))),
+    ("package main\n// GoCover_1\nvar s = \"GoCover_2\"\n", None),
+    ("package main\nvar a.GoCover_3, GoCover_4\n", Some((2, 7))),
+];
+
+fn name_fault(alloc: Global, text: &str) -> Result<Option<Place>, Fail> {
+    let mut files = files_of(alloc, &[MODULE, ("m/m.go", text)])?;
+    match load_for_cover(alloc, &mut files, "m") {
+        Err(
+            LoadRefusal::Source {
+                place,
+                kind: SourceKind::CoverName,
+                ..
+            },
+        ) => Ok(Some(place)),
+        _ => Ok(None),
+    }
+}
+
+#[test]
+fn cover_names(rt: HostRuntime) -> Result<(), Fail> {
+    for (text, want) in &NAMES {
+        let found = name_fault(rt.alloc(), text)?;
+        let want = want.map(|(line, column)| Place { line, column });
+        assert!(rt; found == want, "{text}");
+    }
+    Ok(())
+}
+
+// Faults of lexing come before names, names before faults of parsing; without counters every name is allowed.
+#[test]
+fn cover_names_in_order(rt: HostRuntime) -> Result<(), Fail> {
+    let text = "package main\nvar GoCover_0 int\nvar s = $\n";
+    assert!(rt; name_fault(rt.alloc(), text)?.is_none());
+    let mut files = files_of(
+        rt.alloc(),
+        &[MODULE, ("m/m.go", "package main\nvar GoCover_0 int\n")],
+    )?;
+    let got = shown(rt.alloc(), &mut files)?;
+    assert_eq!(rt; got.as_slice(), b"e.org/m;".as_slice());
+    Ok(())
+}
 
 #[test]
 fn modules(rt: HostRuntime) -> Result<(), Fail> {

@@ -1,0 +1,4 @@
+//! Where the tokens and faults of a source stand.
+#![tactic(auto)]
+
+pub mod laws;
