@@ -13,7 +13,7 @@ use Rattle.go_meaning.specs.declared.expr.Op.{Op}
 use Rattle.go_meaning.specs.declared.expr.Op.TheVariants as op
 use Rattle.go_meaning.specs.declared.expr.Variable.TheVariants.{Slot}
 use Rattle.go_meaning.specs.WellFormed.{IsProgram, IsStatement, Use, variable, group, function, uses, uses_layer, uses_of_op, uses_of_form, AreThere}
-use Rattle.go_samples.specs.Samples.{program, main_function, two_functions, slot, int, applied, make, sending, counts_to, counting, spinning, text, starts, shows_length, adds, doubling, program_with_group, working_functions, working, does, calls, adds_two}
+use Rattle.go_samples.specs.Samples.{program, main_function, two_functions, slot, int, applied, make, sending, counts_to, counting, spinning, turning, turning_functions, text, starts, shows_length, adds, doubling, program_with_group, working_functions, working, does, calls, adds_two}
 
 abbrev AreStatements : Parts → Type 0
 AreStatements P = (k i : ℕ) → MatchOption (slice_get (cutting_order P) k) (Unit {0}) (λ at. MatchOption (form_at P at.list i) (Unit {0}) (IsStatement P at))
@@ -79,8 +79,8 @@ make_uses = simp uses_none
 send_uses : uses (slot 0) ++ uses (int (pos 1)) ≡ variable (Slot 0) ∷ []
 send_uses = simp (uses_value, uses_slot)
 
-counts_uses : (n : ℤ) → uses_of_form (counts_to n) ≡ variable (Slot 0) ∷ variable (Slot 0) ∷ variable (Slot 0) ∷ variable (Slot 0) ∷ []
-counts_uses n = simp (uses_value, uses_slot, uses_two)
+counts_uses : (n : ℤ) (body : ℕ) → uses_of_form (counts_to n body) ≡ variable (Slot 0) ∷ variable (Slot 0) ∷ variable (Slot 0) ∷ variable (Slot 0) ∷ []
+counts_uses n body = simp (uses_value, uses_slot, uses_two)
 
 sending_statements : AreStatements (program (main_function 1 ∷ []) sending)
 sending_statements zero zero = record { uses = there (program (main_function 1 ∷ []) sending) 1 _ _ make_uses (omega arith, tt); within = tt }
@@ -96,7 +96,7 @@ pub sending_is : (fs : List Function) (ls : List (List Node)) → fs ≡ main_fu
 sending_is fs ls e f = subst IsProgram (ap₂ program (sym e) (sym f)) (record { ordered = refl; statements = sending_statements; params = one_params; main = omega arith; packages = refl })
 
 counting_statements : (n : ℤ) → AreStatements (program (main_function 1 ∷ []) (counting n))
-counting_statements n zero zero = record { uses = there (program (main_function 1 ∷ []) (counting n)) 1 _ _ (counts_uses n) (omega arith, (omega arith, (omega arith, (omega arith, tt)))); within = tt }
+counting_statements n zero zero = record { uses = there (program (main_function 1 ∷ []) (counting n)) 1 _ _ (counts_uses n 1) (omega arith, (omega arith, (omega arith, (omega arith, tt)))); within = tt }
 counting_statements n zero (suc i) = tt
 counting_statements n (suc zero) zero = tt
 counting_statements n (suc zero) (suc i) = tt
@@ -119,7 +119,7 @@ adds_itself = simp (uses_slot, uses_two)
 
 doubling_statements : AreStatements (program (main_function 2 ∷ []) doubling)
 doubling_statements zero zero = record { uses = there (program (main_function 2 ∷ []) doubling) 2 _ _ starts_uses (omega arith, tt); within = tt }
-doubling_statements zero (suc zero) = record { uses = there (program (main_function 2 ∷ []) doubling) 2 _ _ (counts_uses (pos 20)) (omega arith, (omega arith, (omega arith, (omega arith, tt)))); within = tt }
+doubling_statements zero (suc zero) = record { uses = there (program (main_function 2 ∷ []) doubling) 2 _ _ (counts_uses (pos 20) 1) (omega arith, (omega arith, (omega arith, (omega arith, tt)))); within = tt }
 doubling_statements zero (suc (suc zero)) = record { uses = there (program (main_function 2 ∷ []) doubling) 2 _ _ shows_uses (omega arith, tt); within = tt }
 doubling_statements zero (suc (suc (suc zero))) = record { uses = there (program (main_function 2 ∷ []) doubling) 2 _ _ adds_text (omega arith, (omega arith, tt)); within = tt }
 doubling_statements zero (suc (suc (suc (suc i)))) = tt
@@ -133,6 +133,33 @@ two_params (suc f) = tt
 
 pub doubling_is : (fs : List Function) (ls : List (List Node)) → fs ≡ main_function 2 ∷ [] → ls ≡ doubling → IsProgram (program fs ls)
 doubling_is fs ls e f = subst IsProgram (ap₂ program (sym e) (sym f)) (record { ordered = refl; statements = doubling_statements; params = two_params; main = omega arith; packages = refl })
+
+-- ---- two goroutines that take turns
+
+abbrev turns : Parts
+turns = program turning_functions turning
+
+turning_statements : AreStatements turns
+turning_statements zero zero = record { uses = (omega arith, tt); within = tt }
+turning_statements zero (suc zero) = record { uses = there turns 1 _ _ (counts_uses (pos 76) 1) (omega arith, (omega arith, (omega arith, (omega arith, tt)))); within = tt }
+turning_statements zero (suc (suc zero)) = record { uses = tt; within = omega arith }
+turning_statements zero (suc (suc (suc i))) = tt
+turning_statements (suc zero) zero = tt
+turning_statements (suc zero) (suc i) = tt
+turning_statements (suc (suc zero)) zero = record { uses = there turns 1 _ _ (counts_uses (pos 76) 3) (omega arith, (omega arith, (omega arith, (omega arith, tt)))); within = tt }
+turning_statements (suc (suc zero)) (suc zero) = record { uses = tt; within = tt }
+turning_statements (suc (suc zero)) (suc (suc i)) = tt
+turning_statements (suc (suc (suc zero))) zero = tt
+turning_statements (suc (suc (suc zero))) (suc i) = tt
+turning_statements (suc (suc (suc (suc k)))) i = tt
+
+turning_params : (f : ℕ) → MatchOption (slice_get turning_functions f) (Unit {0}) (λ (g : Function). g.params ≤ g.slots)
+turning_params zero = omega arith
+turning_params (suc zero) = omega arith
+turning_params (suc (suc f)) = tt
+
+pub turning_is : (fs : List Function) (ls : List (List Node)) → fs ≡ turning_functions → ls ≡ turning → IsProgram (program fs ls)
+turning_is fs ls e f = subst IsProgram (ap₂ program (sym e) (sym f)) (record { ordered = refl; statements = turning_statements; params = turning_params; main = omega arith; packages = refl })
 
 -- ---- two workers
 
@@ -156,7 +183,7 @@ wait_uses : uses_of_form (does (op.Wait 0) []) ≡ group 0 ∷ []
 wait_uses = simp uses_none
 
 working_statements : AreStatements works
-working_statements zero zero = record { uses = there works 1 _ _ (counts_uses (pos 1000)) (omega arith, (omega arith, (omega arith, (omega arith, tt)))); within = tt }
+working_statements zero zero = record { uses = there works 1 _ _ (counts_uses (pos 1000) 1) (omega arith, (omega arith, (omega arith, (omega arith, tt)))); within = tt }
 working_statements zero (suc zero) = record { uses = there works 1 _ _ done_uses (omega arith, tt); within = tt }
 working_statements zero (suc (suc i)) = tt
 working_statements (suc zero) zero = record { uses = there works 1 _ _ call_uses (omega arith, tt); within = tt }

@@ -92,12 +92,12 @@ below n = applied (op.Compare relation.Less) (slot 0 ∷ int n ∷ [])
 abbrev pub goes_up : Simple
 goes_up = sets 0 (applied (op.Arithmetic Add) (slot 0 ∷ int (pos 1) ∷ []))
 
--- for i := 0; i < n; i = i + 1 { }
-abbrev pub counts_to : ℤ → NodeForm
-counts_to n = node.For (Some (sets 0 (int (pos 0)))) (Some (below n)) (Some goes_up) 1
+-- for i := 0; i < n; i = i + 1 { }, with the list of its body
+abbrev pub counts_to : ℤ → ℕ → NodeForm
+counts_to n body = node.For (Some (sets 0 (int (pos 0)))) (Some (below n)) (Some goes_up) body
 
 abbrev pub counting : ℤ → List (List Node)
-counting n = statements (counts_to n ∷ []) ∷ [] ∷ []
+counting n = statements (counts_to n 1 ∷ []) ∷ [] ∷ []
 
 -- go f(); for { }, where f is for { }
 abbrev pub spinning : List (List Node)
@@ -110,6 +110,24 @@ spinning =
 
 abbrev pub two_functions : List Function
 two_functions = function (codes "main") 0 0 ∷ function (codes "f") 0 2 ∷ []
+
+-- ---- two goroutines that take 1,001 steps each
+
+-- go f(); for i := 0; i < 76; i = i + 1 { }; select { }
+abbrev pub turning_main : List Node
+turning_main = statements (node.Go 1 [] ∷ counts_to (pos 76) 1 ∷ node.Select [] ∷ [])
+
+-- for i := 0; i < 76; i = i + 1 { }; const x = 0
+abbrev pub turning_work : List Node
+turning_work = statements (counts_to (pos 76) 3 ∷ node.Const ∷ [])
+
+abbrev pub turning : List (List Node)
+turning = turning_main ∷ [] ∷ turning_work ∷ [] ∷ []
+
+abbrev pub turning_functions : List Function
+turning_functions = function (codes "main") 1 0 ∷ function (codes "f") 1 2 ∷ []
+
+-- ---- a text that grows
 
 -- s = s + more, where s is the second variable
 abbrev pub adds : Expr → NodeForm
@@ -125,7 +143,7 @@ shows_length = node.Simple (simple.Eval (applied (op.Println 1) (applied op.Len 
 
 -- s := "a"; for i := 0; i < 20; i = i + 1 { s = s + s }; fmt.Println(len(s)); s = s + "a"
 abbrev pub doubling_body : List Node
-doubling_body = statements (starts ∷ counts_to (pos 20) ∷ shows_length ∷ adds (text (codes "a")) ∷ [])
+doubling_body = statements (starts ∷ counts_to (pos 20) 1 ∷ shows_length ∷ adds (text (codes "a")) ∷ [])
 
 abbrev pub doubling : List (List Node)
 doubling = doubling_body ∷ statements (adds (slot 1) ∷ []) ∷ []
@@ -144,7 +162,7 @@ calls f = node.Simple (simple.Eval (expr.Call f []) 0 false)
 
 -- for i := 0; i < 1000; i = i + 1 { step() }; group.Done()
 abbrev pub work_body : List Node
-work_body = statements (counts_to (pos 1000) ∷ does (op.Done 0) [] ∷ [])
+work_body = statements (counts_to (pos 1000) 1 ∷ does (op.Done 0) [] ∷ [])
 
 -- group.Add(2)
 abbrev pub adds_two : NodeForm

@@ -4,4 +4,4 @@
 mod parts;
 mod programs;
 
-pub use programs::{counting, doubling, sending, spinning, working};
+pub use programs::{counting, doubling, sending, spinning, turning, working};

@@ -80,9 +80,9 @@ fn goes_up(alloc: Global) -> Result<Simple, AllocError>
     )
 }
 
-// `for i := 0; i < count; i = i + 1 { }` with list 1 as its body.
-fn counts_to(alloc: Global, count: u32) -> Result<NodeForm, AllocError>
-    ensures { IfOk result (λ f. f ≡ samples.counts_to (pos count)) }
+// `for i := 0; i < count; i = i + 1 { }` with the list of its body.
+fn counts_to(alloc: Global, count: u32, body: u64) -> Result<NodeForm, AllocError>
+    ensures { IfOk result (λ f. f ≡ samples.counts_to (pos count) body) }
 {
     let first = Some(sets(alloc, 0, int(0))?);
     let test = Some(below(alloc, count)?);
@@ -91,7 +91,7 @@ fn counts_to(alloc: Global, count: u32) -> Result<NodeForm, AllocError>
         first,
         test,
         last,
-        body: 1,
+        body,
     })
 }
 
@@ -99,7 +99,7 @@ fn counting_lists(alloc: Global, count: u32) -> Result<Items<Items<Node>>, Alloc
     ensures { IfOk result (λ ls. ls ≡ samples.counting (pos count)) }
 {
     let mut lists = Items::new(alloc);
-    lists.push(one(alloc, counts_to(alloc, count)?)?)?;
+    lists.push(one(alloc, counts_to(alloc, count, 1)?)?)?;
     lists.push(Items::new(alloc))?;
     Ok(lists)
 }
@@ -149,6 +149,55 @@ pub fn spinning(alloc: Global) -> Result<Program, AllocError>
     program(alloc, functions, lists)
 }
 
+fn turning_functions(alloc: Global) -> Result<Items<Function>, AllocError>
+    ensures { IfOk result (λ fs. fs ≡ samples.turning_functions) }
+{
+    let mut functions = Items::new(alloc);
+    functions.push(function(alloc, b"main", 1, 0)?)?;
+    functions.push(function(alloc, b"f", 1, 2)?)?;
+    Ok(functions)
+}
+
+fn turning_main(alloc: Global) -> Result<Items<Node>, AllocError>
+    ensures { IfOk result (λ l. l ≡ samples.turning_main) }
+{
+    let mut list = Items::new(alloc);
+    push(&mut list, NodeForm::Go(1, Items::new(alloc)))?;
+    push(&mut list, counts_to(alloc, 76, 1)?)?;
+    push(&mut list, NodeForm::Select(Items::new(alloc)))?;
+    Ok(list)
+}
+
+fn turning_work(alloc: Global) -> Result<Items<Node>, AllocError>
+    ensures { IfOk result (λ l. l ≡ samples.turning_work) }
+{
+    let mut list = Items::new(alloc);
+    push(&mut list, counts_to(alloc, 76, 3)?)?;
+    push(&mut list, NodeForm::Const)?;
+    Ok(list)
+}
+
+fn turning_lists(alloc: Global) -> Result<Items<Items<Node>>, AllocError>
+    ensures { IfOk result (λ ls. ls ≡ samples.turning) }
+{
+    let mut lists = Items::new(alloc);
+    lists.push(turning_main(alloc)?)?;
+    lists.push(Items::new(alloc))?;
+    lists.push(turning_work(alloc)?)?;
+    lists.push(Items::new(alloc))?;
+    Ok(lists)
+}
+
+/// `main` and the function that it starts, which take 1,001 steps each: `go f()`, a loop of 76 turns and an empty
+/// `select`, where `f` is such a loop and a constant.
+pub fn turning(alloc: Global) -> Result<Program, AllocError>
+    ensures { IfOk result (λ p. p ≡ samples.program samples.turning_functions samples.turning) }
+{
+    let lists = turning_lists(alloc)?;
+    let functions = turning_functions(alloc)?;
+    program(alloc, functions, lists)
+}
+
 // `s = s + more`, where `s` is the second variable.
 fn adds(alloc: Global, more: Expr) -> Result<NodeForm, AllocError>
     ensures { IfOk result (λ f. f ≡ samples.adds more) }
@@ -182,7 +231,7 @@ fn doubling_body(alloc: Global) -> Result<Items<Node>, AllocError>
 {
     let mut list = Items::new(alloc);
     push(&mut list, starts(alloc)?)?;
-    push(&mut list, counts_to(alloc, 20)?)?;
+    push(&mut list, counts_to(alloc, 20, 1)?)?;
     push(&mut list, shows_length(alloc)?)?;
     push(&mut list, adds(alloc, text(alloc, b"a")?)?)?;
     Ok(list)
@@ -232,7 +281,7 @@ fn work_body(alloc: Global) -> Result<Items<Node>, AllocError>
     ensures { IfOk result (λ l. l ≡ samples.work_body) }
 {
     let mut list = Items::new(alloc);
-    push(&mut list, counts_to(alloc, 1000)?)?;
+    push(&mut list, counts_to(alloc, 1000, 1)?)?;
     push(&mut list, does(Op::Done(0), Items::new(alloc)))?;
     Ok(list)
 }

@@ -5,7 +5,7 @@ use crate::laws::histories_grow;
 use crate::{Limits, Run, StepRefusal, serial};
 use go_ast::NoMemory;
 use go_meaning::{End, Event, Program};
-use go_samples::{counting, doubling, sending, spinning};
+use go_samples::{counting, doubling, sending, spinning, turning};
 use std::alloc::Global;
 use std::test::Fail;
 
@@ -32,6 +32,11 @@ fn doubled(alloc: Global) -> Result<Run, NoMemory> {
 fn spun(alloc: Global) -> Result<Run, NoMemory> {
     let program = spinning(alloc)?;
     serial(alloc, &program, Limits { steps: 3001 })
+}
+
+fn turned(alloc: Global) -> Result<Run, NoMemory> {
+    let program = turning(alloc)?;
+    serial(alloc, &program, Limits { steps: 100_000 })
 }
 
 fn is_step(run: &Run, at: usize, goroutine: u16) -> bool {
@@ -74,6 +79,18 @@ fn takes_turns(rt: HostRuntime) -> Result<(), Fail> {
     assert!(rt; is_step(&run, 1999, 2) && is_step(&run, 2000, 1));
     assert!(rt; is_step(&run, 2999, 1) && is_step(&run, 3000, 2));
     assert_eq!(rt; run.events().len(), 3001);
+    Ok(())
+}
+
+// Each of two goroutines has 1,001 steps: one of each is left when both had a turn.
+#[test]
+fn ends_turns_early(rt: HostRuntime) -> Result<(), Fail> {
+    let run = turned(rt.alloc())?;
+    assert!(rt; is_step(&run, 999, 1) && is_step(&run, 1000, 2));
+    assert!(rt; is_step(&run, 1999, 2) && is_step(&run, 2000, 1));
+    assert!(rt; is_step(&run, 2001, 2));
+    assert_eq!(rt; run.events().len(), 2002);
+    assert!(rt; run.end() == Some(&End::Deadlock));
     Ok(())
 }
 
