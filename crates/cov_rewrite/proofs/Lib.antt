@@ -1,6 +1,8 @@
 pub mod Rows
+pub mod CountedParts
+pub mod OneText
 pub mod Parts
-pub mod Spans
 pub mod Shuffling
 pub mod Standing
+pub mod Telling
 pub mod Woven

@@ -6,3 +6,4 @@ pub mod Reserved
 pub mod Ascending
 pub mod Shuffle
 pub mod Rewriting
+pub mod Coming

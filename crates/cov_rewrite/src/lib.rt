@@ -12,10 +12,10 @@ mod trailer;
 mod units;
 mod weaving;
 
-pub use covered::covered_text;
+pub use covered::{Rewritten, counted_text, covered_text};
 pub use piece::{Addition, Piece};
 pub use reserved::reserved_name;
-pub use rewriting::rewrite;
+pub use rewriting::{rewrite, rewrite_counted};
 
 #[cfg(test)]
 mod tests;

@@ -4,6 +4,7 @@ ghost use Rattle.go_ast.specs.Tokens.{HasTokens};
 ghost use Rattle.cov_rewrite.specs.Reserved as spec;
 
 use go_ast::{Token, TokenKind};
+use go_spans::laws::tokens_stand_in_text;
 
 /// What the name of the atomic import begins with.
 const ATOMIC: &[u8] = b"_cover_atomic_";
@@ -14,6 +15,7 @@ pub fn reserved_name(text: &[u8], tokens: &[Token], var: &[u8]) -> Option<Token>
     requires { HasTokens text.now tokens.now }
     ensures { result ≡ spec.first_reserved var.now text.now tokens.now }
 {
+    tokens_stand_in_text();
     for token in tokens {
         if is_reserved_token(text, token, var) {
             return Some(*token);

@@ -1,4 +1,5 @@
 pub mod Agreeing
+pub mod Covers
 pub mod DecodedModes
 pub mod Dirs
 pub mod Each
@@ -7,6 +8,7 @@ pub mod Gathered
 pub mod Known
 pub mod Measuring
 pub mod Numbered
+pub mod OneOutcome
 pub mod Pieces
 pub mod Puts
 pub mod Received

@@ -24,8 +24,10 @@ use Rattle.gocov_words.specs.declared.sub.Sub.TheVariants as subs
 use Rattle.gocov_words.specs.declared.fault.WordsFault.{WordsFault}
 use Rattle.gocov_words.specs.declared.fault.WordsFault.TheVariants as words_fault
 use Rattle.gocov_tools.specs.Combine.{operated, files_in}
+use Rattle.gocov_tools.specs.Covering.{Covered}
 use Rattle.gocov_tools.specs.Files.{merged_files}
 use Rattle.gocov_tools.specs.Listing.{listing}
+use Rattle.gocov_tools.specs.Outcome.{Outcomes, Is}
 use Rattle.gocov_tools.specs.Reading.{nothing_read, pods_in, with_pods}
 use Rattle.gocov_tools.specs.declared.operation.Operation.{Operation}
 use Rattle.gocov_tools.specs.declared.operation.Operation.TheVariants as operations
@@ -123,17 +125,17 @@ work_for subs.Debugdump stamp request t = dumped request t
 abbrev pub work_of : Stamp → DataRequest → Tree → Result Work Refusal
 work_of stamp request t = work_for request.sub stamp request t
 
--- what is asked of covdata; the other commands aren't built yet
-abbrev pub asked : Result Command WordsFault → Result DataRequest Refusal
-asked (Ok (Cover request)) = Err refusals.NotBuilt
-asked (Ok (Run request)) = Err refusals.NotBuilt
-asked (Ok (Covdata request)) = Ok request
-asked (Err (words_fault.Usage i)) = Err (refusals.Usage i)
-asked (Err (words_fault.Limit w)) = Err (refusals.Limit w)
-asked (Err words_fault.NoMemory) = Err refusals.NoMemory
+-- ---- the meaning of words
 
--- what a list of words writes
-unfoldable pub command : Stamp → List (List ℕ) → Tree → Result Work Refusal
-command stamp words t = do
-  request ← asked (meaning words)
-  work_of stamp request t
+-- what a meaning comes to; `run` isn't built yet
+abbrev pub CommandOf : Stamp → Result Command WordsFault → Tree → Outcomes
+CommandOf stamp (Ok (Cover request)) t = Covered request t
+CommandOf stamp (Ok (Run request)) t = Is (Err refusals.NotBuilt)
+CommandOf stamp (Ok (Covdata request)) t = Is (work_of stamp request t)
+CommandOf stamp (Err (words_fault.Usage i)) t = Is (Err (refusals.Usage i))
+CommandOf stamp (Err (words_fault.Limit w)) t = Is (Err (refusals.Limit w))
+CommandOf stamp (Err words_fault.NoMemory) t = Is (Err refusals.NoMemory)
+
+-- what a list of words comes to
+abbrev pub Commands : Stamp → List (List ℕ) → Tree → Outcomes
+Commands stamp words t = CommandOf stamp (meaning words) t

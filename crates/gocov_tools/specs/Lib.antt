@@ -1,5 +1,6 @@
 pub mod Combine
 pub mod Command
+pub mod Covering
 pub mod Files
 pub mod Line
 pub mod Listing
@@ -9,4 +10,5 @@ pub mod Outcome
 pub mod Outside
 pub mod Reading
 pub mod Refusals
+pub mod SourceNames
 pub mod Texts

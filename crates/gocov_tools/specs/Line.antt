@@ -4,12 +4,17 @@ use Rattle.std.specs.Io.KnownBytes.{append_known}
 use Rattle.cov_outside.specs.Faults.{Rose, Count, HasPrefix}
 use Rattle.cov_outside.specs.Limits.{kind_name, limit_name, limit_number}
 use Rattle.cov_outside.specs.Mode.{mode_name}
+use Rattle.gocov_tools.specs.SourceNames.{source_name}
 use Rattle.gocov_tools.specs.declared.status.Status.{Status}
 use Rattle.gocov_tools.specs.declared.status.Status.TheVariants as statuses
 
 -- what is wrong with a data file, at which byte
 abbrev pub data_line : List ℕ → List ℕ → List ℕ → List ℕ
 data_line path offset kind = codes "gocov: " ++ (path ++ (codes ": byte " ++ (offset ++ (codes ": " ++ (kind ++ codes "\n")))))
+
+-- what is wrong with a source file, at which line and column
+abbrev pub source_line : List ℕ → List ℕ → List ℕ → List ℕ → List ℕ
+source_line path line column kind = codes "gocov: " ++ (path ++ (codes ":" ++ (line ++ (codes ":" ++ (column ++ (codes ": " ++ (kind ++ codes "\n")))))))
 
 -- which limit was passed, and its number
 abbrev pub limit_line : List ℕ → List ℕ → List ℕ
@@ -28,6 +33,7 @@ abbrev pub line_of : Status → List ℕ
 line_of (statuses.Done n) = []
 line_of statuses.NotBuilt = codes "gocov: not built\n"
 line_of (statuses.Usage i) = usage_line (decimal i)
+line_of (statuses.Source path place kind) = source_line path (decimal place.line) (decimal place.column) (source_name kind)
 line_of (statuses.Missing path) = codes "gocov: " ++ (path ++ codes ": Missing\n")
 line_of (statuses.Data path offset kind) = data_line path (decimal offset) (kind_name kind)
 line_of (statuses.ModeClash first first_mode second second_mode) = clash_line first (mode_name first_mode) second (mode_name second_mode)
@@ -41,6 +47,7 @@ abbrev pub code_of : Status → ℕ
 code_of (statuses.Done n) = n
 code_of statuses.NotBuilt = 3
 code_of (statuses.Usage i) = 2
+code_of (statuses.Source path place kind) = 1
 code_of (statuses.Missing path) = 1
 code_of (statuses.Data path offset kind) = 1
 code_of (statuses.ModeClash first first_mode second second_mode) = 1
@@ -58,6 +65,7 @@ abbrev pub Finishes : Status → Status → Count → Count → Type 0
 Finishes (statuses.Done n) result before now = (result ≡ statuses.Done n) × (now ≡ before)
 Finishes statuses.NotBuilt result before now = Spoils statuses.NotBuilt result before now
 Finishes (statuses.Usage i) result before now = Spoils (statuses.Usage i) result before now
+Finishes (statuses.Source path place kind) result before now = Spoils (statuses.Source path place kind) result before now
 Finishes (statuses.Missing path) result before now = Spoils (statuses.Missing path) result before now
 Finishes (statuses.Data path offset kind) result before now = Spoils (statuses.Data path offset kind) result before now
 Finishes (statuses.ModeClash a b c d) result before now = Spoils (statuses.ModeClash a b c d) result before now

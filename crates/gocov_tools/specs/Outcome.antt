@@ -1,14 +1,30 @@
--- What a command leaves of the tree of files and writes to its sink, and that its answer is the one that is there.
+-- What a command leaves of the tree of files and writes to its sink, and that its answer is one that is there.
 use Rattle.std.specs.Prelude.{◌≡◌, ◌⊎◌, ℕ, ◌≤◌, List, [], ◌∷◌, length, take, Result, Ok, Err, Option, Some, slice_get}
 use Rattle.std.specs.FinMap as map
 use Rattle.std.specs.Io.KnownBytes.{append_known}
-use Rattle.cov_outside.specs.Faults.{Count, Rose, HasPrefix}
+use Rattle.cov_outside.specs.Faults.{Count, never, Rose, HasPrefix}
 use Rattle.cov_outside.specs.Tree.{Tree, SameElsewhere}
 use Rattle.gocov_tools.specs.declared.work.Work.{Work}
 use Rattle.gocov_tools.specs.declared.refusal.Refusal.{Refusal}
 use Rattle.gocov_tools.specs.declared.refusal.Refusal.TheVariants as refusals
 use Rattle.gocov_tools.specs.declared.status.Status.{Status}
 use Rattle.gocov_tools.specs.declared.status.Status.TheVariants as statuses
+
+-- ---- what is there
+
+-- what a command may come to: works and refusals
+abbrev pub Outcomes : Type 1
+Outcomes = Result Work Refusal → Type 0
+
+-- this alone
+abbrev pub Is : Result Work Refusal → Outcomes
+Is there outcome = outcome ≡ there
+
+-- some work of a command
+abbrev pub SomeWork : Outcomes → (Work → Type 0) → Type 0
+SomeWork there P = (work : Work) × there (Ok work) × P work
+
+-- ---- puts
 
 -- a path and the bytes that are put there
 abbrev pub Put : Type 0
@@ -27,82 +43,63 @@ PutsUpTo puts old new = (n : ℕ) × (n ≤ length puts) × (new ≡ Some (with_
 abbrev pub PutFails : List Put → Tree → Option Tree → Type 0
 PutFails puts old new = (n : ℕ) × (put : Put) × (slice_get puts n ≡ Some put) × SameElsewhere put.0 (Some (with_puts old (take n puts))) new
 
--- Done: all puts stand. A refusal is the first one, and all is as before. A write fault comes from a put of the work, or from
--- the sink, and then no file was put.
-abbrev pub Leaves : Status → Result Work Refusal → Tree → Option Tree → Count → Count → Count → Count → Type 0
-Leaves (statuses.Done n) (Ok work) old new puts puts' outs outs' = (n ≡ 0) × (new ≡ Some (with_puts old work.puts))
-Leaves (statuses.Done n) (Err e) old new puts puts' outs outs' = ⊥
-Leaves statuses.NotBuilt there old new puts puts' outs outs' = (there ≡ Err refusals.NotBuilt) × (new ≡ Some old)
-Leaves (statuses.Usage i) there old new puts puts' outs outs' = (there ≡ Err (refusals.Usage i)) × (new ≡ Some old)
-Leaves (statuses.Missing path) there old new puts puts' outs outs' = (there ≡ Err (refusals.Missing path)) × (new ≡ Some old)
-Leaves (statuses.Data path offset kind) there old new puts puts' outs outs' = (there ≡ Err (refusals.Data path offset kind)) × (new ≡ Some old)
-Leaves (statuses.ModeClash a b c d) there old new puts puts' outs outs' = (there ≡ Err (refusals.ModeClash a b c d)) × (new ≡ Some old)
-Leaves (statuses.InputLimit w) there old new puts puts' outs outs' = (there ≡ Err (refusals.Limit w)) × (new ≡ Some old)
-Leaves statuses.ReadFault there old new puts puts' outs outs' = new ≡ Some old
-Leaves statuses.WriteFault (Ok work) old new puts puts' outs outs' = (Rose puts puts' × PutFails work.puts old new) ⊎ (Rose outs outs' × (new ≡ Some old))
-Leaves statuses.WriteFault (Err e) old new puts puts' outs outs' = ⊥
-Leaves statuses.NoMemory (Ok work) old new puts puts' outs outs' = PutsUpTo work.puts old new
-Leaves statuses.NoMemory (Err e) old new puts puts' outs outs' = new ≡ Some old
+-- ---- a work that is performed
 
--- The sink received the whole text where the work is done, a front of it after a write fault and for want of memory, and
--- nothing after a refusal.
-abbrev pub Receives : Status → Result Work Refusal → Option (List ℕ) → Option (List ℕ) → Type 0
-Receives (statuses.Done n) (Ok work) old new = new ≡ append_known old work.text
-Receives (statuses.Done n) (Err e) old new = ⊥
-Receives statuses.NotBuilt there old new = new ≡ old
-Receives (statuses.Usage i) there old new = new ≡ old
-Receives (statuses.Missing path) there old new = new ≡ old
-Receives (statuses.Data path offset kind) there old new = new ≡ old
-Receives (statuses.ModeClash a b c d) there old new = new ≡ old
-Receives (statuses.InputLimit w) there old new = new ≡ old
-Receives statuses.ReadFault there old new = new ≡ old
-Receives statuses.WriteFault (Ok work) old new = HasPrefix old new work.text
-Receives statuses.WriteFault (Err e) old new = ⊥
-Receives statuses.NoMemory (Ok work) old new = HasPrefix old new work.text
-Receives statuses.NoMemory (Err e) old new = new ≡ old
+-- Done: all puts stand. A write fault comes from a put, or from the sink, and then no file was put.
+abbrev pub Performs : Status → Work → Tree → Option Tree → Count → Count → Count → Count → Type 0
+Performs (statuses.Done n) work old new puts puts' outs outs' = (n ≡ 0) × (new ≡ Some (with_puts old work.puts))
+Performs statuses.WriteFault work old new puts puts' outs outs' = (Rose puts puts' × PutFails work.puts old new) ⊎ (Rose outs outs' × (new ≡ Some old))
+Performs statuses.NoMemory work old new puts puts' outs outs' = PutsUpTo work.puts old new
+Performs status work old new puts puts' outs outs' = ⊥
+
+-- the sink received the whole text where the work is done, and else a front of it
+abbrev pub Writes : Status → Work → Option (List ℕ) → Option (List ℕ) → Type 0
+Writes (statuses.Done n) work old new = new ≡ append_known old work.text
+Writes statuses.WriteFault work old new = HasPrefix old new work.text
+Writes statuses.NoMemory work old new = HasPrefix old new work.text
+Writes status work old new = ⊥
+
+-- ---- a command
+
+-- Its work was performed. Or its answer is a refusal that is there, a read fault or want of memory, and all is as before.
+abbrev pub Leaves : Status → Outcomes → Tree → Option Tree → Count → Count → Count → Count → Type 0
+Leaves (statuses.Done n) there old new puts puts' outs outs' = SomeWork there (λ work. Performs (statuses.Done n) work old new puts puts' outs outs')
+Leaves statuses.NotBuilt there old new puts puts' outs outs' = there (Err refusals.NotBuilt) × (new ≡ Some old)
+Leaves (statuses.Usage i) there old new puts puts' outs outs' = there (Err (refusals.Usage i)) × (new ≡ Some old)
+Leaves (statuses.Source path place kind) there old new puts puts' outs outs' = there (Err (refusals.Source path place kind)) × (new ≡ Some old)
+Leaves (statuses.Missing path) there old new puts puts' outs outs' = there (Err (refusals.Missing path)) × (new ≡ Some old)
+Leaves (statuses.Data path offset kind) there old new puts puts' outs outs' = there (Err (refusals.Data path offset kind)) × (new ≡ Some old)
+Leaves (statuses.ModeClash a b c d) there old new puts puts' outs outs' = there (Err (refusals.ModeClash a b c d)) × (new ≡ Some old)
+Leaves (statuses.InputLimit w) there old new puts puts' outs outs' = there (Err (refusals.Limit w)) × (new ≡ Some old)
+Leaves statuses.ReadFault there old new puts puts' outs outs' = new ≡ Some old
+Leaves statuses.WriteFault there old new puts puts' outs outs' = SomeWork there (λ work. Performs statuses.WriteFault work old new puts puts' outs outs')
+Leaves statuses.NoMemory there old new puts puts' outs outs' = (new ≡ Some old) ⊎ SomeWork there (λ work. Performs statuses.NoMemory work old new puts puts' outs outs')
+
+-- the same of a command without a sink
+abbrev pub LeavesFiles : Status → Outcomes → Tree → Option Tree → Count → Count → Type 0
+LeavesFiles status there old new puts puts' = Leaves status there old new puts puts' never never
+
+-- The sink received what the work writes. After a refusal and a read fault it received nothing.
+abbrev pub Receives : Status → Outcomes → Option (List ℕ) → Option (List ℕ) → Type 0
+Receives (statuses.Done n) there old new = SomeWork there (λ work. Writes (statuses.Done n) work old new)
+Receives statuses.WriteFault there old new = SomeWork there (λ work. Writes statuses.WriteFault work old new)
+Receives statuses.NoMemory there old new = (new ≡ old) ⊎ SomeWork there (λ work. Writes statuses.NoMemory work old new)
+Receives status there old new = new ≡ old
 
 -- ---- the top call, which writes the line of the answer besides
 
 -- The same once the line was written, or could not be: the answer is then a write fault or want of memory.
-abbrev pub TopLeaves : Status → Result Work Refusal → Tree → Option Tree → Count → Count → Count → Count → Count → Count → Type 0
-TopLeaves (statuses.Done n) (Ok work) old new puts puts' outs outs' errs errs' = (n ≡ 0) × (new ≡ Some (with_puts old work.puts))
-TopLeaves (statuses.Done n) (Err e) old new puts puts' outs outs' errs errs' = ⊥
-TopLeaves statuses.NotBuilt there old new puts puts' outs outs' errs errs' = (there ≡ Err refusals.NotBuilt) × (new ≡ Some old)
-TopLeaves (statuses.Usage i) there old new puts puts' outs outs' errs errs' = (there ≡ Err (refusals.Usage i)) × (new ≡ Some old)
-TopLeaves (statuses.Missing path) there old new puts puts' outs outs' errs errs' = (there ≡ Err (refusals.Missing path)) × (new ≡ Some old)
-TopLeaves (statuses.Data path offset kind) there old new puts puts' outs outs' errs errs' = (there ≡ Err (refusals.Data path offset kind)) × (new ≡ Some old)
-TopLeaves (statuses.ModeClash a b c d) there old new puts puts' outs outs' errs errs' = (there ≡ Err (refusals.ModeClash a b c d)) × (new ≡ Some old)
-TopLeaves (statuses.InputLimit w) there old new puts puts' outs outs' errs errs' = (there ≡ Err (refusals.Limit w)) × (new ≡ Some old)
-TopLeaves statuses.ReadFault there old new puts puts' outs outs' errs errs' = new ≡ Some old
-TopLeaves statuses.WriteFault (Ok work) old new puts puts' outs outs' errs errs' = (Rose puts puts' × PutFails work.puts old new) ⊎ ((Rose outs outs' ⊎ Rose errs errs') × (new ≡ Some old))
-TopLeaves statuses.WriteFault (Err e) old new puts puts' outs outs' errs errs' = Rose errs errs' × (new ≡ Some old)
-TopLeaves statuses.NoMemory (Ok work) old new puts puts' outs outs' errs errs' = PutsUpTo work.puts old new ⊎ PutFails work.puts old new
-TopLeaves statuses.NoMemory (Err e) old new puts puts' outs outs' errs errs' = new ≡ Some old
+abbrev pub TopLeaves : Status → Outcomes → Tree → Option Tree → Count → Count → Count → Count → Count → Count → Type 0
+TopLeaves statuses.WriteFault there old new puts puts' outs outs' errs errs' = Leaves statuses.WriteFault there old new puts puts' outs outs' ⊎ (Rose errs errs' × (new ≡ Some old))
+TopLeaves statuses.NoMemory there old new puts puts' outs outs' errs errs' = Leaves statuses.NoMemory there old new puts puts' outs outs' ⊎ SomeWork there (λ work. PutFails work.puts old new)
+TopLeaves status there old new puts puts' outs outs' errs errs' = Leaves status there old new puts puts' outs outs'
 
-abbrev pub TopReceives : Status → Result Work Refusal → Option (List ℕ) → Option (List ℕ) → Type 0
-TopReceives (statuses.Done n) (Ok work) old new = new ≡ append_known old work.text
-TopReceives (statuses.Done n) (Err e) old new = ⊥
-TopReceives statuses.NotBuilt there old new = new ≡ old
-TopReceives (statuses.Usage i) there old new = new ≡ old
-TopReceives (statuses.Missing path) there old new = new ≡ old
-TopReceives (statuses.Data path offset kind) there old new = new ≡ old
-TopReceives (statuses.ModeClash a b c d) there old new = new ≡ old
-TopReceives (statuses.InputLimit w) there old new = new ≡ old
-TopReceives statuses.ReadFault there old new = new ≡ old
-TopReceives statuses.WriteFault (Ok work) old new = HasPrefix old new work.text
-TopReceives statuses.WriteFault (Err e) old new = new ≡ old
-TopReceives statuses.NoMemory (Ok work) old new = HasPrefix old new work.text
-TopReceives statuses.NoMemory (Err e) old new = new ≡ old
+abbrev pub TopReceives : Status → Outcomes → Option (List ℕ) → Option (List ℕ) → Type 0
+TopReceives statuses.WriteFault there old new = Receives statuses.WriteFault there old new ⊎ (new ≡ old)
+TopReceives status there old new = Receives status there old new
 
 -- the whole work was done, or memory ran out
 abbrev pub IsDone : Status → Type 0
 IsDone (statuses.Done n) = Unit {0}
-IsDone statuses.NotBuilt = ⊥
-IsDone (statuses.Usage i) = ⊥
-IsDone (statuses.Missing path) = ⊥
-IsDone (statuses.Data path offset kind) = ⊥
-IsDone (statuses.ModeClash a b c d) = ⊥
-IsDone (statuses.InputLimit w) = ⊥
-IsDone statuses.ReadFault = ⊥
-IsDone statuses.WriteFault = ⊥
 IsDone statuses.NoMemory = Unit {0}
+IsDone status = ⊥

@@ -10,12 +10,13 @@ use Rattle.gocov_tools.specs.declared.refusal.Refusal.TheVariants as refusals
 use Rattle.gocov_tools.specs.declared.status.Status.{Status}
 use Rattle.gocov_tools.specs.declared.status.Status.TheVariants as statuses
 
--- The count of reads rose where a read failed, and is as before at every other answer. What is wrong with words isn't among
--- the answers.
+-- The count of reads rose where a read failed, and is as before at every other answer. What is wrong with words or with a source
+-- isn't among the answers.
 abbrev pub CountsRead : {X : Type 0} → Count → Count → Result X Refusal → Type 0
 CountsRead before now (Ok x) = now ≡ before
 CountsRead before now (Err refusals.NotBuilt) = ⊥
 CountsRead before now (Err (refusals.Usage i)) = ⊥
+CountsRead before now (Err (refusals.Source path place kind)) = ⊥
 CountsRead before now (Err (refusals.Missing path)) = now ≡ before
 CountsRead before now (Err (refusals.Data path offset kind)) = now ≡ before
 CountsRead before now (Err (refusals.ModeClash a b c d)) = now ≡ before
@@ -29,6 +30,7 @@ abbrev pub Causes : Status → Count → Count → Count → Count → Count →
 Causes (statuses.Done n) reads reads' puts puts' outs outs' = (reads' ≡ reads) × (puts' ≡ puts) × (outs' ≡ outs)
 Causes statuses.NotBuilt reads reads' puts puts' outs outs' = (reads' ≡ reads) × (puts' ≡ puts) × (outs' ≡ outs)
 Causes (statuses.Usage i) reads reads' puts puts' outs outs' = (reads' ≡ reads) × (puts' ≡ puts) × (outs' ≡ outs)
+Causes (statuses.Source path place kind) reads reads' puts puts' outs outs' = (reads' ≡ reads) × (puts' ≡ puts) × (outs' ≡ outs)
 Causes (statuses.Missing path) reads reads' puts puts' outs outs' = (reads' ≡ reads) × (puts' ≡ puts) × (outs' ≡ outs)
 Causes (statuses.Data path offset kind) reads reads' puts puts' outs outs' = (reads' ≡ reads) × (puts' ≡ puts) × (outs' ≡ outs)
 Causes (statuses.ModeClash a b c d) reads reads' puts puts' outs outs' = (reads' ≡ reads) × (puts' ≡ puts) × (outs' ≡ outs)
@@ -37,44 +39,49 @@ Causes statuses.ReadFault reads reads' puts puts' outs outs' = Rose reads reads'
 Causes statuses.WriteFault reads reads' puts puts' outs outs' = (reads' ≡ reads) × ((Rose puts puts' × (outs' ≡ outs)) ⊎ ((puts' ≡ puts) × Rose outs outs'))
 Causes statuses.NoMemory reads reads' puts puts' outs outs' = (reads' ≡ reads) × (puts' ≡ puts) × (outs' ≡ outs)
 
--- an answer that words alone don't decide
+-- an answer of covdata
 abbrev pub IsOfData : Status → Type 0
-IsOfData (statuses.Done n) = Unit {0}
 IsOfData statuses.NotBuilt = ⊥
 IsOfData (statuses.Usage i) = ⊥
-IsOfData (statuses.Missing path) = Unit {0}
-IsOfData (statuses.Data path offset kind) = Unit {0}
-IsOfData (statuses.ModeClash a b c d) = Unit {0}
-IsOfData (statuses.InputLimit w) = Unit {0}
-IsOfData statuses.ReadFault = Unit {0}
-IsOfData statuses.WriteFault = Unit {0}
-IsOfData statuses.NoMemory = Unit {0}
+IsOfData (statuses.Source path place kind) = ⊥
+IsOfData status = Unit {0}
 
--- a command that isn't built yet
-abbrev pub IsUnbuilt : Result Command WordsFault → Type 0
-IsUnbuilt (Ok (Cover request)) = Unit {0}
-IsUnbuilt (Ok (Run request)) = Unit {0}
-IsUnbuilt (Ok (Covdata request)) = ⊥
-IsUnbuilt (Err e) = ⊥
+-- an answer of cover
+abbrev pub IsOfCover : Status → Type 0
+IsOfCover statuses.NotBuilt = ⊥
+IsOfCover (statuses.Usage i) = ⊥
+IsOfCover (statuses.Data path offset kind) = ⊥
+IsOfCover (statuses.ModeClash a b c d) = ⊥
+IsOfCover status = Unit {0}
 
--- what is wrong with words is answered only where they mean it, whatever the objects of the outside are
+abbrev pub IsCover : Result Command WordsFault → Type 0
+IsCover (Ok (Cover request)) = Unit {0}
+IsCover there = ⊥
+
+abbrev pub IsRun : Result Command WordsFault → Type 0
+IsRun (Ok (Run request)) = Unit {0}
+IsRun there = ⊥
+
+abbrev pub IsCovdata : Result Command WordsFault → Type 0
+IsCovdata (Ok (Covdata request)) = Unit {0}
+IsCovdata there = ⊥
+
+-- What is wrong with words is answered only where they mean it, and an answer of one command alone only where they mean that
+-- command, whatever the objects of the outside are. `run` isn't built yet.
 abbrev pub IsOfWords : Status → Result Command WordsFault → Type 0
-IsOfWords (statuses.Done n) there = Unit {0}
-IsOfWords statuses.NotBuilt there = IsUnbuilt there
+IsOfWords statuses.NotBuilt there = IsRun there
 IsOfWords (statuses.Usage i) there = there ≡ Err (words_fault.Usage i)
-IsOfWords (statuses.Missing path) there = Unit {0}
-IsOfWords (statuses.Data path offset kind) there = Unit {0}
-IsOfWords (statuses.ModeClash a b c d) there = Unit {0}
-IsOfWords (statuses.InputLimit w) there = Unit {0}
-IsOfWords statuses.ReadFault there = Unit {0}
-IsOfWords statuses.WriteFault there = Unit {0}
-IsOfWords statuses.NoMemory there = Unit {0}
+IsOfWords (statuses.Source path place kind) there = IsCover there
+IsOfWords (statuses.Data path offset kind) there = IsCovdata there
+IsOfWords (statuses.ModeClash a b c d) there = IsCovdata there
+IsOfWords status there = Unit {0}
 
 -- what an object tells is as before after a refusal and after a read fault
 abbrev pub Keeps : {A : Type 0} → Status → A → A → Type 0
 Keeps (statuses.Done n) old new = Unit {0}
 Keeps statuses.NotBuilt old new = new ≡ old
 Keeps (statuses.Usage i) old new = new ≡ old
+Keeps (statuses.Source path place kind) old new = new ≡ old
 Keeps (statuses.Missing path) old new = new ≡ old
 Keeps (statuses.Data path offset kind) old new = new ≡ old
 Keeps (statuses.ModeClash a b c d) old new = new ≡ old
@@ -88,6 +95,7 @@ abbrev pub TopCauses : Status → Count → Count → Count → Count → Count 
 TopCauses (statuses.Done n) reads reads' puts puts' outs outs' errs errs' = (reads' ≡ reads) × (puts' ≡ puts) × (outs' ≡ outs) × (errs' ≡ errs)
 TopCauses statuses.NotBuilt reads reads' puts puts' outs outs' errs errs' = (reads' ≡ reads) × (puts' ≡ puts) × (outs' ≡ outs) × (errs' ≡ errs)
 TopCauses (statuses.Usage i) reads reads' puts puts' outs outs' errs errs' = (reads' ≡ reads) × (puts' ≡ puts) × (outs' ≡ outs) × (errs' ≡ errs)
+TopCauses (statuses.Source path place kind) reads reads' puts puts' outs outs' errs errs' = (reads' ≡ reads) × (puts' ≡ puts) × (outs' ≡ outs) × (errs' ≡ errs)
 TopCauses (statuses.Missing path) reads reads' puts puts' outs outs' errs errs' = (reads' ≡ reads) × (puts' ≡ puts) × (outs' ≡ outs) × (errs' ≡ errs)
 TopCauses (statuses.Data path offset kind) reads reads' puts puts' outs outs' errs errs' = (reads' ≡ reads) × (puts' ≡ puts) × (outs' ≡ outs) × (errs' ≡ errs)
 TopCauses (statuses.ModeClash a b c d) reads reads' puts puts' outs outs' errs errs' = (reads' ≡ reads) × (puts' ≡ puts) × (outs' ≡ outs) × (errs' ≡ errs)

@@ -21,6 +21,7 @@ within which n = if nat_lt (limit_number which) n then Err (refusals.Limit which
 abbrev pub answer_of : Refusal → Status
 answer_of refusals.NotBuilt = statuses.NotBuilt
 answer_of (refusals.Usage i) = statuses.Usage i
+answer_of (refusals.Source path place kind) = statuses.Source path place kind
 answer_of (refusals.Missing path) = statuses.Missing path
 answer_of (refusals.Data path offset kind) = statuses.Data path offset kind
 answer_of (refusals.ModeClash first first_mode second second_mode) = statuses.ModeClash first first_mode second second_mode
@@ -32,6 +33,7 @@ answer_of refusals.NoMemory = statuses.NoMemory
 abbrev pub Refuses : {Y : Type 0} → Refusal → Result Y Refusal → Type 0
 Refuses refusals.NotBuilt there = there ≡ Err refusals.NotBuilt
 Refuses (refusals.Usage i) there = there ≡ Err (refusals.Usage i)
+Refuses (refusals.Source path place kind) there = there ≡ Err (refusals.Source path place kind)
 Refuses (refusals.Missing path) there = there ≡ Err (refusals.Missing path)
 Refuses (refusals.Data path offset kind) there = there ≡ Err (refusals.Data path offset kind)
 Refuses (refusals.ModeClash first first_mode second second_mode) there = there ≡ Err (refusals.ModeClash first first_mode second second_mode)
@@ -44,11 +46,12 @@ abbrev pub Gives : {X Y : Type 0} → (X → Y) → Result X Refusal → Result 
 Gives view (Ok x) there = there ≡ Ok (view x)
 Gives view (Err e) there = Refuses e there
 
--- the same of a call that reads neither files nor words: their faults aren't among its answers
+-- the same of a call that reads no files, words or sources: their faults aren't among its answers
 abbrev pub Decides : {X Y : Type 0} → (X → Y) → Result X Refusal → Result Y Refusal → Type 0
 Decides view (Ok x) there = there ≡ Ok (view x)
 Decides view (Err refusals.NotBuilt) there = ⊥
 Decides view (Err (refusals.Usage i)) there = ⊥
+Decides view (Err (refusals.Source path place kind)) there = ⊥
 Decides view (Err (refusals.Missing path)) there = there ≡ Err (refusals.Missing path)
 Decides view (Err (refusals.Data path offset kind)) there = there ≡ Err (refusals.Data path offset kind)
 Decides view (Err (refusals.ModeClash first first_mode second second_mode)) there = there ≡ Err (refusals.ModeClash first first_mode second second_mode)
@@ -60,6 +63,7 @@ Decides view (Err refusals.NoMemory) there = Unit {0}
 abbrev pub IsFaultOrMemory : Refusal → Type 0
 IsFaultOrMemory refusals.NotBuilt = ⊥
 IsFaultOrMemory (refusals.Usage i) = ⊥
+IsFaultOrMemory (refusals.Source path place kind) = ⊥
 IsFaultOrMemory (refusals.Missing path) = ⊥
 IsFaultOrMemory (refusals.Data path offset kind) = ⊥
 IsFaultOrMemory (refusals.ModeClash first first_mode second second_mode) = ⊥

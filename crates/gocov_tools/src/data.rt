@@ -3,7 +3,7 @@ ghost use Rattle.std.specs.Prelude.{◌≡◌, IfSome};
 ghost use Rattle.std.specs.Str.{IsUtf8};
 ghost use Rattle.gocov_tools.specs.Command as spec;
 ghost use Rattle.gocov_tools.specs.Refusals.{Gives};
-ghost use Rattle.gocov_tools.specs.Outcome.{Leaves, Receives};
+ghost use Rattle.gocov_tools.specs.Outcome.{Is, Leaves, Receives};
 ghost use Rattle.gocov_tools.specs.Outside.{Causes, CountsRead, IsOfData, Keeps};
 
 use crate::combine::combine_work;
@@ -63,8 +63,8 @@ pub fn covdata<F: Files, O: Sink>(
     out: &mut O,
     stamp: Stamp,
 ) -> Status
-    ensures told { IfSome (F.tree files.old) (λ t. Leaves result (spec.work_of stamp args.now t) t (F.tree files.new) (F.put_faults files.old) (F.put_faults files.new) (O.faults out.old) (O.faults out.new)) }
-    ensures received { IfSome (F.tree files.old) (λ t. Receives result (spec.work_of stamp args.now t) (O.contents out.old) (O.contents out.new)) }
+    ensures told { IfSome (F.tree files.old) (λ t. Leaves result (Is (spec.work_of stamp args.now t)) t (F.tree files.new) (F.put_faults files.old) (F.put_faults files.new) (O.faults out.old) (O.faults out.new)) }
+    ensures received { IfSome (F.tree files.old) (λ t. Receives result (Is (spec.work_of stamp args.now t)) (O.contents out.old) (O.contents out.new)) }
     ensures causes { Causes result (F.read_faults files.old) (F.read_faults files.new) (F.put_faults files.old) (F.put_faults files.new) (O.faults out.old) (O.faults out.new) }
     ensures of_data { IsOfData result }
     ensures kept { Keeps result (F.tree files.old) (F.tree files.new) }

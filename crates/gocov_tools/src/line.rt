@@ -5,10 +5,13 @@ ghost use Rattle.std.specs.Io.KnownBytes.{append_known};
 ghost use Rattle.cov_outside.specs.Faults.{Counts, HasPrefix};
 ghost use Rattle.cov_outside.specs.Mode.{mode_name};
 ghost use Rattle.cov_outside.specs.Limits.{kind_name, limit_name, limit_number};
-ghost use Rattle.gocov_tools.specs.Line.{line_of, data_line, limit_line, usage_line, clash_line, Finishes, HasLine, HasPart};
+ghost use Rattle.gocov_tools.specs.SourceNames.{source_name};
+ghost use Rattle.gocov_tools.specs.Line.{line_of, data_line, source_line, limit_line, usage_line, clash_line, Finishes, HasLine, HasPart};
 
+use crate::source_name::name_of;
 use crate::status::Status;
 use cov_outside::{DataKind, FilesFault, Sink, Text, Which, write_whole};
+use go_ast::{Place, SourceKind};
 use itoa::Buffer;
 
 /// Writes pieces one after the other. After an `Err` the sink has received a front of them.
@@ -53,6 +56,43 @@ fn write_data<E: Sink>(
     let mut digits = Buffer::new();
     let offset = digits.format(offset).as_bytes();
     write_data_line(err, path.bytes(), offset, kind.name())
+}
+
+fn write_source_line<'a, E: Sink>(
+    err: &mut E,
+    path: &'a [u8],
+    line: &'a [u8],
+    column: &'a [u8],
+    kind: &'a [u8],
+) -> Result<(), FilesFault>
+    ensures ok { OnOk result (E.contents err.new ≡ append_known (E.contents err.old) (source_line path.now line.now column.now kind.now)) }
+    ensures err { OnErr result (HasPrefix (E.contents err.old) (E.contents err.new) (source_line path.now line.now column.now kind.now)) }
+    ensures cause { Counts (E.faults err.old) (E.faults err.new) result }
+{
+    write_pieces(
+        err,
+        &[
+            b"gocov: ", path, b":", line, b":", column, b": ", kind, b"\n",
+        ],
+    )
+}
+
+/// Writes what is wrong with a source file.
+fn write_source<E: Sink>(
+    err: &mut E,
+    path: &Text,
+    place: Place,
+    kind: SourceKind,
+) -> Result<(), FilesFault>
+    ensures ok { OnOk result (E.contents err.new ≡ append_known (E.contents err.old) (source_line path.now (decimal place.line) (decimal place.column) (source_name kind))) }
+    ensures err { OnErr result (HasPrefix (E.contents err.old) (E.contents err.new) (source_line path.now (decimal place.line) (decimal place.column) (source_name kind))) }
+    ensures cause { Counts (E.faults err.old) (E.faults err.new) result }
+{
+    let mut line = Buffer::new();
+    let mut column = Buffer::new();
+    let line = line.format(place.line).as_bytes();
+    let column = column.format(place.column).as_bytes();
+    write_source_line(err, path.bytes(), line, column, name_of(kind))
 }
 
 fn write_limit_line<'a, E: Sink>(
@@ -135,6 +175,7 @@ fn write_line<E: Sink>(err: &mut E, status: &Status) -> Result<(), FilesFault>
         Status::Done(_) => Ok(()),
         Status::NotBuilt => write_pieces(err, &[b"gocov: not built\n".as_slice()]),
         Status::Usage(word) => write_usage(err, *word),
+        Status::Source { path, place, kind } => write_source(err, path, *place, *kind),
         Status::Missing { path } => write_pieces(
             err,
             &[

@@ -1,12 +1,12 @@
 //! Writing what a command writes.
-ghost use Rattle.std.specs.Prelude.{◌≡◌, ◌<◌, length, IfSome, IsErrOf, OnOk, OnErr, Ok};
+ghost use Rattle.std.specs.Prelude.{◌≡◌, ◌<◌, length, IfSome, IsErrOf, OnOk, OnErr};
 ghost use Rattle.std.specs.Str.{IsUtf8};
 ghost use Rattle.std.specs.Option.{option_map};
 ghost use Rattle.std.specs.FinMap as map;
-ghost use Rattle.cov_outside.specs.Faults.{Counts};
+ghost use Rattle.cov_outside.specs.Faults.{Counts, never};
 ghost use Rattle.cov_outside.specs.Tree.{SameElsewhere};
-ghost use Rattle.gocov_tools.specs.Outcome.{with_puts, PutsUpTo, PutFails, Leaves, Receives};
-ghost use Rattle.gocov_tools.specs.Outside.{Causes, IsOfData, Keeps};
+ghost use Rattle.gocov_tools.specs.Outcome.{with_puts, PutsUpTo, PutFails, Performs, Writes};
+ghost use Rattle.gocov_tools.specs.Outside.{Causes, IsOfCover, IsOfData, Keeps};
 
 use crate::status::Status;
 use crate::work::{PutFile, Work};
@@ -75,8 +75,8 @@ pub fn perform<F: Files, O: Sink>(
     work: &Work,
 ) -> Status
     requires { IfSome dir (λ d. IsUtf8 d.now) }
-    ensures told { IfSome (F.tree files.old) (λ t. Leaves result (Ok work.now) t (F.tree files.new) (F.put_faults files.old) (F.put_faults files.new) (O.faults out.old) (O.faults out.new)) }
-    ensures received { Receives result (Ok work.now) (O.contents out.old) (O.contents out.new) }
+    ensures told { IfSome (F.tree files.old) (λ t. Performs result work.now t (F.tree files.new) (F.put_faults files.old) (F.put_faults files.new) (O.faults out.old) (O.faults out.new)) }
+    ensures received { Writes result work.now (O.contents out.old) (O.contents out.new) }
     ensures causes { Causes result (F.read_faults files.old) (F.read_faults files.new) (F.put_faults files.old) (F.put_faults files.new) (O.faults out.old) (O.faults out.new) }
     ensures of_data { IsOfData result }
     ensures kept { Keeps result (F.tree files.old) (F.tree files.new) }
@@ -88,6 +88,20 @@ pub fn perform<F: Files, O: Sink>(
         Err(FilesFault::NoMemory) => return Status::NoMemory,
     }
     match put_in(files, dir, work.puts.as_slice()) {
+        Ok(()) => Status::Done(0),
+        Err(FilesFault::Failed) => Status::WriteFault,
+        Err(FilesFault::NoMemory) => Status::NoMemory,
+    }
+}
+
+/// Puts the files of a work in order. It has no text, and no directory is made.
+pub fn put_work<F: Files>(files: &mut F, work: &Work) -> Status
+    ensures told { IfSome (F.tree files.old) (λ t. Performs result work.now t (F.tree files.new) (F.put_faults files.old) (F.put_faults files.new) never never) }
+    ensures causes { Causes result (F.read_faults files.old) (F.read_faults files.new) (F.put_faults files.old) (F.put_faults files.new) never never }
+    ensures of_cover { IsOfCover result }
+    ensures kept { Keeps result (F.tree files.old) (F.tree files.new) }
+{
+    match put_all(files, work.puts.as_slice()) {
         Ok(()) => Status::Done(0),
         Err(FilesFault::Failed) => Status::WriteFault,
         Err(FilesFault::NoMemory) => Status::NoMemory,

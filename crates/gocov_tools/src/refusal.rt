@@ -5,6 +5,7 @@ ghost use Rattle.gocov_tools.specs.Refusals.{answer_of};
 
 use crate::status::Status;
 use cov_outside::{DataKind, FilesFault, Mode, Text, Which};
+use go_ast::{Place, SourceKind};
 use std::alloc::{AllocError, AllocFailed};
 
 /// The first refusal of a command.
@@ -12,6 +13,11 @@ use std::alloc::{AllocError, AllocFailed};
 pub enum Refusal {
     NotBuilt,
     Usage(usize),
+    Source {
+        path: Text,
+        place: Place,
+        kind: SourceKind,
+    },
     Missing {
         path: Text,
     },
@@ -68,6 +74,7 @@ pub fn status_of(refusal: Refusal) -> Status
     match refusal {
         Refusal::NotBuilt => Status::NotBuilt,
         Refusal::Usage(word) => Status::Usage(word),
+        Refusal::Source { path, place, kind } => Status::Source { path, place, kind },
         Refusal::Missing { path } => Status::Missing { path },
         Refusal::Data { path, offset, kind } => Status::Data { path, offset, kind },
         Refusal::ModeClash {

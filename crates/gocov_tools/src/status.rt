@@ -2,6 +2,7 @@
 ghost use Rattle.std.specs.Prelude.{◌≡◌};
 
 use cov_outside::{DataKind, Mode, Text, Which};
+use go_ast::{Place, SourceKind};
 
 /// The answer of a command.
 #[derive(Debug, Drop)]
@@ -12,6 +13,12 @@ pub enum Status {
     NotBuilt,
     /// The word with this index, from 0, is wrong, or one is missing there.
     Usage(usize),
+    /// The first fault of a source file, and where it stands.
+    Source {
+        path: Text,
+        place: Place,
+        kind: SourceKind,
+    },
     /// There is no file at the path.
     Missing {
         path: Text,
@@ -45,7 +52,8 @@ impl Status {
     {
         match self {
             Status::Done(code) => *code,
-            Status::Missing { .. }
+            Status::Source { .. }
+            | Status::Missing { .. }
             | Status::Data { .. }
             | Status::ModeClash { .. }
             | Status::InputLimit(_) => 1,

@@ -62,7 +62,12 @@ counters covcounters.11111111111111111111111111111111.1.1 flavour 2 functions 1 
             "gocov: usage: word 2\n",
         ),
         ("covdate", 2, "", "gocov: usage: word 0\n"),
-        ("cover -mode=set -o=b.go a.go", 3, "", "gocov: not built\n"),
+        (
+            "cover -mode=set -o=b.go a.go",
+            1,
+            "",
+            "gocov: a.go: Missing\n",
+        ),
         ("run c", 3, "", "gocov: not built\n"),
         (
             "covdata percent -i=c,b",

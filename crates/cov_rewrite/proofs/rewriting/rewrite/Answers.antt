@@ -1,17 +1,16 @@
-use Rattle.std.proofs.Common.{◌≡◌, None, ◌∙◌, sym, ap, subst}
-use Rattle.go_grammar.specs.Blocks.{source}
-use Rattle.go_grammar.specs.Files.{SpellsWithin}
-use Rattle.go_grammar.specs.Words.{words_of}
-use Rattle.cov_rewrite.specs.Reserved.{first_reserved}
-use Rattle.cov_rewrite.specs.Rewriting.{lexical_fault}
+use Rattle.std.proofs.Common.{sym, subst}
+use Rattle.cov_rewrite.specs.Rewriting.{IsRewriting}
+use Rattle.cov_rewrite.proofs.Telling.{rewriting, refused, only_memory}
 use Rattle.cov_rewrite.proofs.rewriting.rewrite.Goals as goal
 
-pub returns-in-Ok-clause-only : goal.returns-in-Ok-clause-only
-returns-in-Ok-clause-only c =
-    λ all r.
-    let text = c.args.text.now in
-    let same : r.0 ≡ c.deref.result.now = c.tokens_or_fault.ensures.one_list text r.0 c.in-Ok.tokens.items r.2 c.in-Ok.ensures.tokens ∙ sym c.deref.ensures.value in
-    c.rewrite_tokens.ensures.only r.1 (subst (λ ts. first_reserved c.args.var.now text ts ≡ None) same r.3) (subst (λ ts. SpellsWithin source 1000 1000 r.1 (words_of text ts)) same r.4)
+pub returns-in-Ok-clause-covered : goal.returns-in-Ok-clause-covered
+returns-in-Ok-clause-covered c =
+    subst (IsRewriting c.args.text.now c.args.name.now c.args.var.now c.args.mode) (sym c.into_vec.ensures) (rewriting c.args.text.now c.args.name.now c.args.var.now c.args.mode c.in-Ok.all c.in-Ok.ensures.told)
+
+pub returns-in-Err-clause-fault : goal.returns-in-Err-clause-fault
+returns-in-Err-clause-fault c = refused c.args.text.now c.args.name.now c.args.var.now c.args.mode c.in-Err.fault c.in-Err.ensures.told
 
 pub returns-in-Err-clause-only : goal.returns-in-Err-clause-only
-returns-in-Err-clause-only c = λ all r. c.lexical.ensures ∙ ap lexical_fault (c.in-Err.ensures.only r.0 r.2)
+returns-in-Err-clause-only c =
+    λ all r.
+    only_memory c.args.text.now c.args.name.now c.args.var.now c.args.mode (λ x y h k. c.one_text_or_fault.ensures c.args.text.now c.args.name.now c.args.var.now c.args.mode x y h k) all r c.in-Err.fault c.in-Err.ensures.told

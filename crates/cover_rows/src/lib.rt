@@ -1,0 +1,5 @@
+//! `cover` from words to file, by rows.
+#![tactic(auto)]
+
+#[cfg(test)]
+mod tests;
