@@ -1,6 +1,0 @@
-use Rattle.std.proofs.Common.{◌≡◌, drop}
-use Rattle.go_check.specs.Statements as statements
-use Rattle.go_check.proofs.declaration.const_specs.Given as goal
-
-abbrev pub invariant-loop-one : goal.invariant-loop-one
-invariant-loop-one l = statements.const_specs l.specs l.fn.walk ≡ statements.const_specs (drop l.one-index l.specs) l.walk

@@ -1,7 +1,0 @@
-use Rattle.std.proofs.Common.{◌≡◌, ◌++◌, map, take, drop, length}
-use Rattle.std.specs.Prelude.{flat_map, []}
-use Rattle.go_check.specs.Packages as spec
-use Rattle.go_check.proofs.package_names.add_consts.Given as goal
-
-abbrev pub invariant-loop-one : goal.invariant-loop-one
-invariant-loop-one l = l.all ≡ l.fn.all ++ map (spec.declared_const l.file) (take l.one-index l.specs)

@@ -1,7 +1,0 @@
-use Rattle.std.proofs.Common.{◌≡◌, ◌++◌, map, take, drop, length}
-use Rattle.std.specs.Prelude.{flat_map, []}
-use Rattle.go_check.specs.Packages as spec
-use Rattle.go_check.proofs.package_names.add_decls.Given as goal
-
-abbrev pub invariant-loop-decl : goal.invariant-loop-decl
-invariant-loop-decl l = l.all ≡ l.fn.all ++ flat_map (spec.declared_by l.file) (take l.decl-index l.decls)

@@ -1,6 +1,0 @@
-use Rattle.std.proofs.Common.{◌≡◌, ◌++◌, drop, map}
-use Rattle.go_check.specs.Statements as spec
-use Rattle.go_check.proofs.simple.wanted_types.Given as goal
-
-abbrev pub invariant-loop-place : goal.invariant-loop-place
-invariant-loop-place l = map spec.wanted_by l.places ≡ l.wanted ++ map spec.wanted_by (drop l.place-index l.places)
