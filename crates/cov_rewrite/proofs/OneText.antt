@@ -38,7 +38,7 @@ by_fault text tokens i reading.TooMany = fault.Limit limit.SelectClauses
 by_fault text tokens i reading.Exhausted = fault.NoMemory
 
 abbrev IsBy : List ℕ → List Token → SourceFault → Type 0
-IsBy text tokens e = (i : ℕ) × (f : Fault) × IsFaultAt 1000 1000 (words_of text tokens) i f × (e ≡ by_fault text tokens i f)
+IsBy text tokens e = (i : ℕ) × (f : Fault) × IsFaultAt source 1000 1000 (words_of text tokens) i f × (e ≡ by_fault text tokens i f)
 
 by : (text : List ℕ) (tokens : List Token) (e : SourceFault) → IsReal e → IsFaultOf text tokens e → IsBy text tokens e
 by text tokens (fault.At offset kind) real h = (h.1.0, reading.Unexpected, h.1.1, ap₂ (λ (o : ℕ) (k : SourceKind). fault.At o k) h.1.2 h.0)
@@ -62,7 +62,7 @@ OneLexFault = (text : List ℕ) (at other : ℕ) (kind other_kind : LexKind) →
 abbrev pub NotBoth : Type 0
 NotBoth = (text : List ℕ) (tokens : List Token) (at : ℕ) (kind : LexKind) → HasTokens text tokens → HasFault text at kind → ⊥
 
-module _ (one_list : OneList) (one_lex : OneLexFault) (not_both : NotBoth) (one_tree : SpellsOne) (apart : TreeHasNoFault) (one_fault : OneFault) (text name var : List ℕ) (m : Mode) where
+module _ (one_list : OneList) (one_lex : OneLexFault) (not_both : NotBoth) (one_tree : SpellsOne source) (apart : TreeHasNoFault source) (one_fault : OneFault source) (text name var : List ℕ) (m : Mode) where
   -- ---- two faults
 
   lexical : (x y : SourceFault) → IsReal x → IsReal y → IsLexFault text x → IsLexFault text y → x ≡ y

@@ -28,7 +28,7 @@ name_fault_one token fault.NoMemory e p q = absurd p
 module _ (one_list : (text : List ℕ) (tokens others : List Token) → HasTokens text tokens → HasTokens text others → tokens ≡ others)
     (one_fault : (text : List ℕ) (at other : ℕ) (kind other_kind : LexKind) → IsFault text at kind → IsFault text other other_kind → (at ≡ other) × (kind ≡ other_kind))
     (not_both : (text : List ℕ) (tokens : List Token) (at : ℕ) (kind : LexKind) → HasTokens text tokens → HasFault text at kind → ⊥)
-    (one_tree : SpellsOne) (apart : TreeHasNoFault) (one : OneFault) where
+    (one_tree : SpellsOne source) (apart : TreeHasNoFault source) (one : OneFault source) where
   refusal_one : (text : List ℕ) (tokens : List Token) (name : Option Token) (d e : SourceFault) → IsTold d → IsTold e → RefusesTokens text tokens name d → RefusesTokens text tokens name e → d ≡ e
   refusal_one text tokens None d e told said p q = fault_one one_list one_fault not_both one_tree apart one text tokens d e told said p q
   refusal_one text tokens (Some token) d e told said p q = name_fault_one token d e p q

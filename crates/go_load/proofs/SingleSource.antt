@@ -27,7 +27,7 @@ IsTold e = IsSaid (Err (read_fault e))
 module _ (one_list : (text : List ℕ) (tokens others : List Token) → HasTokens text tokens → HasTokens text others → tokens ≡ others)
     (one_fault : (text : List ℕ) (at other : ℕ) (kind other_kind : LexKind) → IsFault text at kind → IsFault text other other_kind → (at ≡ other) × (kind ≡ other_kind))
     (not_both : (text : List ℕ) (tokens : List Token) (at : ℕ) (kind : LexKind) → HasTokens text tokens → HasFault text at kind → ⊥)
-    (one_tree : SpellsOne) (apart : TreeHasNoFault) (one : OneFault) where
+    (one_tree : SpellsOne source) (apart : TreeHasNoFault source) (one : OneFault source) where
   pub lex_one : (text : List ℕ) (d e : SourceFault) → IsTold d → IsTold e → IsLexFault text d → IsLexFault text e → d ≡ e
   unfolding IsTold
   lex_one text (fault.At at kind) (fault.At other also) told said p q =

@@ -7,6 +7,7 @@ use Rattle.go_reading.specs.Input.{Reader, Tall, Outcome, ◌>>=◌, peek, pure,
 use Rattle.go_reading.specs.Kinds.{is}
 use Rattle.go_reading.specs.Stmts.{block, breakable, stmt_in, nested_stmt, plain_stmt}
 use Rattle.go_parse.specs.Parts.{Worded, leaves, worded, or_else, stmt_at, if_at, breakable_at, begins_breakable}
+use Rattle.go_grammar.specs.Blocks.{source}
 
 -- ---- one reader of several steps, cut in two
 
@@ -37,7 +38,7 @@ by_word (e ∷ es) p ts = choose (is (kind_of ts) e.0) e.1 (by_words es p) (e.1 
 
 -- ---- statements
 
-pub with_brace : (n m d : ℕ) (ts : List Word) → is (kind_of ts) k.left_brace ≡ true → stmt_at n m d ts ≡ nested_stmt n d (block n m d) ts
+pub with_brace : (n m d : ℕ) (ts : List Word) → is (kind_of ts) k.left_brace ≡ true → stmt_at n m d ts ≡ nested_stmt n d (block source n m d) ts
 unfolding stmt_at stmt_in
 with_brace n m d ts brace = rw brace refl
 
@@ -67,18 +68,18 @@ pub with_breakable : (n m d : ℕ) (ts : List Word) → is (kind_of ts) k.left_b
 unfolding stmt_at stmt_in leaves
 with_breakable n m d ts brace word begins =
     let p = breakable_at n m d in
-    let rest = by_words (leaves n d) (plain_stmt n d (breakable n m d)) in
+    let rest = by_words (leaves n d) (plain_stmt n d (breakable source n m d)) in
     rw (brace, word) (either_way (is (kind_of ts) k.for_word) p (peek >>= if_kind k.switch_word p (peek >>= if_kind k.select_word p rest)) ts
     (λ no_for. either_way (is (kind_of ts) k.switch_word) p (peek >>= if_kind k.select_word p rest) ts
     (λ no_switch. either_way (is (kind_of ts) k.select_word) p rest ts
     (λ no_select. absurd (one_of (is (kind_of ts) k.for_word) (is (kind_of ts) k.switch_word) (is (kind_of ts) k.select_word) begins no_for no_switch no_select)))))
 
 pub with_other : (n m d : ℕ) (ts : List Word) → is (kind_of ts) k.left_brace ≡ false → is (kind_of ts) k.if_word ≡ false → begins_breakable (kind_of ts) ≡ false
-    → stmt_at n m d ts ≡ (worded (leaves n d) >>= or_else (plain_stmt n d (breakable n m d))) ts
+    → stmt_at n m d ts ≡ (worded (leaves n d) >>= or_else (plain_stmt n d (breakable source n m d))) ts
 unfolding stmt_at stmt_in leaves
 with_other n m d ts brace word begins =
     let none = none_of (is (kind_of ts) k.for_word) (is (kind_of ts) k.switch_word) (is (kind_of ts) k.select_word) begins in
     let no_for : is (kind_of ts) k.for_word ≡ false = none.0 in
     let no_switch : is (kind_of ts) k.switch_word ≡ false = none.1 in
     let no_select : is (kind_of ts) k.select_word ≡ false = none.2 in
-    rw (brace, word, no_for, no_switch, no_select) (by_word (leaves n d) (plain_stmt n d (breakable n m d)) ts)
+    rw (brace, word, no_for, no_switch, no_select) (by_word (leaves n d) (plain_stmt n d (breakable source n m d)) ts)

@@ -26,7 +26,7 @@ OneList = (text : List ℕ) (tokens others : List Token) → HasTokens text toke
 abbrev pub NotBoth : Type 0
 NotBoth = (text : List ℕ) (tokens : List Token) (at : ℕ) (kind : LexKind) → HasTokens text tokens → HasFault text at kind → ⊥
 
-no_fault : TreeHasNoFault → (text : List ℕ) (tokens : List Token) (tree : File) (e : SourceFault) → SpellsWithin source 1000 1000 tree (words_of text tokens) → IsFaultOf text tokens e → e ≡ fault.NoMemory
+no_fault : TreeHasNoFault source → (text : List ℕ) (tokens : List Token) (tree : File) (e : SourceFault) → SpellsWithin source 1000 1000 tree (words_of text tokens) → IsFaultOf text tokens e → e ≡ fault.NoMemory
 no_fault apart text tokens tree (fault.At offset kind) s h = absurd (apart 1000 1000 h.1.0 (words_of text tokens) tree f.Unexpected s h.1.1)
 no_fault apart text tokens tree (fault.Limit limit.Depth) s h = absurd (apart 1000 1000 h.0 (words_of text tokens) tree f.TooDeep s h.1)
 no_fault apart text tokens tree (fault.Limit limit.SelectClauses) s h = absurd (apart 1000 1000 h.0 (words_of text tokens) tree f.TooMany s h.1)
@@ -38,7 +38,7 @@ no_lex_fault both text tokens (fault.Limit which) t h = absurd h
 no_lex_fault both text tokens fault.NoMemory t h = refl
 
 -- a source fails for want of memory alone
-pub only_memory : OneList → NotBoth → TreeHasNoFault → (text : List ℕ) (tree : File) (e : SourceFault) → IsSource text tree → Fails text e → e ≡ fault.NoMemory
+pub only_memory : OneList → NotBoth → TreeHasNoFault source → (text : List ℕ) (tree : File) (e : SourceFault) → IsSource text tree → Fails text e → e ≡ fault.NoMemory
 only_memory one both apart text tree e s (inl h) = no_lex_fault both text s.0 e s.1 h
 only_memory one both apart text tree e s (inr h) = no_fault apart text s.0 tree e s.2 (subst (λ (ts : List Token). IsFaultOf text ts e) (one text h.0 s.0 h.1 s.1) h.2)
 
@@ -46,7 +46,7 @@ only_memory one both apart text tree e s (inr h) = no_fault apart text s.0 tree 
 abbrev pub Told : List ℕ → List Token → Result File SourceFault → Type 0
 Told text tokens r = MatchResult r (λ x. SpellsWithin source 1000 1000 x (words_of text tokens)) (IsFaultOf text tokens)
 
-pub only_told : TreeHasNoFault → (text : List ℕ) (tokens : List Token) (r : Result File SourceFault) (tree : File) → Told text tokens r
+pub only_told : TreeHasNoFault source → (text : List ℕ) (tokens : List Token) (r : Result File SourceFault) (tree : File) → Told text tokens r
     → SpellsWithin source 1000 1000 tree (words_of text tokens) → IfErr r (λ e. e ≡ fault.NoMemory)
 only_told apart text tokens (Ok x) tree told s = tt
 only_told apart text tokens (Err e) tree told s = no_fault apart text tokens tree e s told
@@ -68,7 +68,7 @@ module _ (text : List ℕ) (tokens others : List Token) (r : Result File SourceF
   fails_by (Ok x) h = tt
   fails_by (Err e) h = inr (tokens, has, h)
 
-  only_by : OneList → NotBoth → TreeHasNoFault → (tree : File) → IsSource text tree → (r : Result File SourceFault) → Told text tokens r → IfErr r (λ e. e ≡ fault.NoMemory)
+  only_by : OneList → NotBoth → TreeHasNoFault source → (tree : File) → IsSource text tree → (r : Result File SourceFault) → Told text tokens r → IfErr r (λ e. e ≡ fault.NoMemory)
   only_by one both apart tree s (Ok x) h = tt
   only_by one both apart tree s (Err e) h = only_memory one both apart text tree e s (inr (tokens, has, h))
 
@@ -78,7 +78,7 @@ module _ (text : List ℕ) (tokens others : List Token) (r : Result File SourceF
   pub fails_told : IfErr r (Fails text)
   fails_told = fails_by r same
 
-  pub only_source : OneList → NotBoth → TreeHasNoFault → (tree : File) → IsSource text tree → IfErr r (λ e. e ≡ fault.NoMemory)
+  pub only_source : OneList → NotBoth → TreeHasNoFault source → (tree : File) → IsSource text tree → IfErr r (λ e. e ≡ fault.NoMemory)
   only_source one both apart tree s = only_by one both apart tree s r same
 
 pub lexical_fault : (text : List ℕ) (e : LexFault) → LexFails text e → IsLexFault text (source_fault e)

@@ -11,6 +11,7 @@ use Rattle.go_reading.specs.Input.{Reader, Tall, ◌>>=◌, peek, pure, refuse, 
 use Rattle.go_reading.specs.Stmts.{for_head, maybe_header, for_form, cases_from, comms_from, stmt, block}
 use Rattle.go_parse.specs.declared.opening.Opening.{Opening}
 use Rattle.go_parse.specs.declared.opening.Opening.TheVariants as o
+use Rattle.go_grammar.specs.Blocks.{source}
 
 unfoldable pub for_opening : ℕ → ℕ → Reader (Tall Opening)
 for_opening n d = limited d 1 (do
@@ -49,11 +50,11 @@ select_end start left cs h = do
 -- what follows
 abbrev pub opened_by : ℕ → ℕ → ℕ → Tall Opening → Reader (Tall Stmt)
 opened_by n m d (o.For start x, h) = do
-  b ← block n m d
+  b ← (block source) n m d
   pure (stmt_node start b.0.end (for_form x b.0.block), max h b.1 + 1)
 opened_by n m d (o.Switch start x left, h) = do
-  cs ← cases_from n d (stmt n m d) n [] 0
+  cs ← (cases_from source) n d (stmt source n m d) n [] 0
   switch_end start x left cs.0 (max h cs.1)
 opened_by n m d (o.Select start left, h) = do
-  cs ← comms_from n d (stmt n m d) m n [] 0
+  cs ← (comms_from source) n d (stmt source n m d) m n [] 0
   select_end start left cs.0 cs.1

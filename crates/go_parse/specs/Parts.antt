@@ -10,6 +10,7 @@ use Rattle.go_reading.specs.Exprs.{expr}
 use Rattle.go_reading.specs.Simple.{lead}
 use Rattle.go_reading.specs.declared.header.ForHead.{ForHead}
 use Rattle.go_reading.specs.Stmts.{maybe_before, for_by, const_stmt, var_stmt, return_stmt, break_stmt, continue_stmt, fallthrough_stmt, go_stmt, defer_stmt, stmt_in, if_in, breakable_in, stmt, block, breakable, hidden}
+use Rattle.go_grammar.specs.Blocks.{source}
 
 -- what stands between the `;` behind a first statement and the `{`: a test, or maybe a tag
 abbrev pub test_part : ℕ → ℕ → Bool → Reader (Tall (Option Expr))
@@ -45,13 +46,13 @@ or_else p (Some x) = pure x
 -- ---- statements with so many levels below them
 
 unfoldable pub if_at : ℕ → ℕ → ℕ → Reader (Tall Stmt)
-if_at n m d = if_in n d (block n m d) (hidden n m d)
+if_at n m d = if_in n d (block source n m d) (hidden source n m d)
 
 unfoldable pub breakable_at : ℕ → ℕ → ℕ → Reader (Tall Stmt)
-breakable_at n m d = breakable_in n m d (stmt n m d) (block n m d)
+breakable_at n m d = breakable_in source n m d (stmt source n m d) (block source n m d)
 
 unfoldable pub stmt_at : ℕ → ℕ → ℕ → Reader (Tall Stmt)
-stmt_at n m d = stmt_in n d (block n m d) (if_at n m d) (breakable_at n m d) (breakable n m d)
+stmt_at n m d = stmt_in n d (block source n m d) (if_at n m d) (breakable_at n m d) (breakable source n m d)
 
 abbrev pub begins_breakable : Option TokenKind → Bool
 begins_breakable kind = is kind t.for_word || is kind t.switch_word || is kind t.select_word

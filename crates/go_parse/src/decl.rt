@@ -2,6 +2,7 @@
 ghost use Rattle.std.specs.Prelude.{◌≡◌, ◌≤◌, ◌<◌, ◌+◌, max, IfOk};
 ghost use Rattle.go_reading.specs.Input.{Reads};
 ghost use Rattle.go_reading.specs.Decls as spec;
+ghost use Rattle.go_grammar.specs.Blocks.{source};
 
 use crate::bounds::Bounds;
 use crate::cursor::Tokens;
@@ -24,7 +25,7 @@ fn func(
 ) -> Result<(Decl, usize), ParseError>
     requires { depth ≤ 1000 }
     ensures tall { IfOk result (λ x. x.1 ≤ depth) }
-    ensures reads { Reads (spec.func bounds.turns bounds.most depth tokens.old) result tokens.new }
+    ensures reads { Reads (spec.func source bounds.turns bounds.most depth tokens.old) result tokens.new }
 {
     let start = tokens.take().start;
     let (name, _) = tokens.expect_name(alloc)?;
@@ -55,7 +56,7 @@ pub fn declaration(
 ) -> Result<(Decl, usize), ParseError>
     requires { depth ≤ 1000 }
     ensures tall { IfOk result (λ x. x.1 ≤ depth) }
-    ensures reads { Reads (spec.declaration bounds.turns bounds.most depth tokens.old) result tokens.new }
+    ensures reads { Reads (spec.declaration source bounds.turns bounds.most depth tokens.old) result tokens.new }
 {
     if tokens.sees(CONST) {
         tokens.take();

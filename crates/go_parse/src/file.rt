@@ -3,6 +3,7 @@ ghost use Rattle.std.specs.Prelude.{◌≡◌, ◌≤◌, ◌<◌, ◌+◌, [], 
 ghost use Rattle.go_reading.specs.Input.{Reads};
 ghost use Rattle.go_reading.specs.Lists.{group_list};
 ghost use Rattle.go_reading.specs.Files as spec;
+ghost use Rattle.go_grammar.specs.Blocks.{source};
 
 use crate::bounds::Bounds;
 use crate::cursor::Tokens;
@@ -106,7 +107,7 @@ fn decls(
 ) -> Result<(Items<Decl>, usize), ParseError>
     requires { depth ≤ 1000 }
     ensures tall { IfOk result (λ x. x.1 ≤ depth) }
-    ensures reads { Reads (spec.decls_from bounds.turns bounds.most depth bounds.turns [] 0 tokens.old) result tokens.new }
+    ensures reads { Reads (spec.decls_from source bounds.turns bounds.most depth bounds.turns [] 0 tokens.old) result tokens.new }
 {
     let mut found = Items::new(alloc);
     let mut height = 0;
@@ -132,7 +133,7 @@ pub fn file(
 ) -> Result<(File, usize), ParseError>
     requires { (0 < depth) × (depth ≤ 1000) }
     ensures tall { IfOk result (λ x. x.1 ≤ depth) }
-    ensures reads { Reads (spec.file bounds.turns bounds.most depth tokens.old) result tokens.new }
+    ensures reads { Reads (spec.file source bounds.turns bounds.most depth tokens.old) result tokens.new }
 {
     tokens.expect(PACKAGE)?;
     let (package, _) = tokens.expect_name(alloc)?;

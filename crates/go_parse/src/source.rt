@@ -107,7 +107,7 @@ fn read_all(alloc: Global, text: &[u8], tokens: &[Token]) -> Result<File, Source
 /// The fault at a token.
 fn fault_at(text: &[u8], tokens: &[Token], at: usize, fault: Fault) -> SourceFault
     requires short { length text.now ≤ 2 ^ 31 }
-    requires fault { IsFaultAt 1000 1000 (words_of text.now tokens.now) at fault }
+    requires fault { (IsFaultAt source) 1000 1000 (words_of text.now tokens.now) at fault }
     ensures { IsFaultOf text.now tokens.now result }
 {
     match fault {

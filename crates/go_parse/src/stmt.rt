@@ -3,6 +3,7 @@ ghost use Rattle.std.specs.Prelude.{◌≡◌, ◌≤◌, ◌<◌, ◌+◌, ◌-
 ghost use Rattle.go_reading.specs.Input.{Reads};
 ghost use Rattle.go_reading.specs.Stmts as spec;
 ghost use Rattle.go_parse.specs.Parts as parts;
+ghost use Rattle.go_grammar.specs.Blocks.{source};
 
 use crate::bounds::Bounds;
 use crate::clause::{case_head, comm_head, sees_clause};
@@ -67,7 +68,7 @@ fn plain_stmt(
 ) -> Result<(Stmt, usize), ParseError>
     requires { depth < 1000 }
     ensures tall { IfOk result (λ x. x.1 ≤ depth + 2) }
-    ensures reads { Reads (spec.plain_stmt bounds.turns depth (spec.breakable bounds.turns bounds.most depth) tokens.old) result tokens.new }
+    ensures reads { Reads (spec.plain_stmt bounds.turns depth (spec.breakable source bounds.turns bounds.most depth) tokens.old) result tokens.new }
 {
     if depth == 0 {
         return bare(alloc, tokens, true);
@@ -100,7 +101,7 @@ fn list(
 ) -> Result<(Items<Stmt>, usize), ParseError>
     requires { depth < 1000 }
     ensures tall { IfOk result (λ x. x.1 ≤ depth) }
-    ensures reads { Reads (spec.list bounds.turns depth (spec.stmt bounds.turns bounds.most depth) clause full tokens.old) result tokens.new }
+    ensures reads { Reads (spec.list source bounds.turns depth (spec.stmt source bounds.turns bounds.most depth) clause full tokens.old) result tokens.new }
 {
     let mut found = Items::new(alloc);
     if ends_list(clause, tokens.peek()) {
@@ -149,7 +150,7 @@ pub fn block(
 ) -> Result<(Braced, usize), ParseError>
     requires { depth ≤ 1000 }
     ensures tall { IfOk result (λ x. x.1 ≤ depth) }
-    ensures reads { Reads (spec.block bounds.turns bounds.most depth tokens.old) result tokens.new }
+    ensures reads { Reads (spec.block source bounds.turns bounds.most depth tokens.old) result tokens.new }
 {
     if depth == 0 {
         return Err(EXHAUSTED);
@@ -201,7 +202,7 @@ fn else_from(
 ) -> Result<(Else, usize), ParseError>
     requires { (0 < depth) × (depth < 1000) }
     ensures tall { IfOk result (λ x. x.1 ≤ depth) }
-    ensures reads { Reads (spec.else_from bounds.turns depth (spec.block bounds.turns bounds.most depth) (spec.hidden bounds.turns bounds.most depth) end tokens.old) result tokens.new }
+    ensures reads { Reads (spec.else_from bounds.turns depth (spec.block source bounds.turns bounds.most depth) (spec.hidden source bounds.turns bounds.most depth) end tokens.old) result tokens.new }
 {
     if !tokens.sees(ELSE) {
         return Ok((Else { other: None, end }, 0));
@@ -259,7 +260,7 @@ fn cases(
 ) -> Result<(Items<CaseClause>, usize), ParseError>
     requires { depth < 1000 }
     ensures tall { IfOk result (λ x. x.1 ≤ depth) }
-    ensures reads { Reads (spec.cases_from bounds.turns depth (spec.stmt bounds.turns bounds.most depth) bounds.turns [] 0 tokens.old) result tokens.new }
+    ensures reads { Reads (spec.cases_from source bounds.turns depth (spec.stmt source bounds.turns bounds.most depth) bounds.turns [] 0 tokens.old) result tokens.new }
 {
     let mut found = Items::new(alloc);
     let mut height = 0;
@@ -290,7 +291,7 @@ fn comms(
 ) -> Result<(Items<CommClause>, usize), ParseError>
     requires { depth < 1000 }
     ensures tall { IfOk result (λ x. x.1 ≤ depth) }
-    ensures reads { Reads (spec.comms_from bounds.turns depth (spec.stmt bounds.turns bounds.most depth) bounds.most bounds.turns [] 0 tokens.old) result tokens.new }
+    ensures reads { Reads (spec.comms_from source bounds.turns depth (spec.stmt source bounds.turns bounds.most depth) bounds.most bounds.turns [] 0 tokens.old) result tokens.new }
 {
     let mut found = Items::new(alloc);
     let mut height = 0;

@@ -57,7 +57,7 @@ either N d K R true p p' q ts here there = here refl
 either N d K R false p p' q ts here there = there refl
 
 -- a limit that is passed, whatever reads where there is more room
-good_deep : {A : Type 0} (N : ℕ) (d : Room) (K : Fault → Type 0) (R : Form A) (q : Reader A) (ts : List Word) → kind_of ts ≢ None → (K TooDeep → (r : List Word) → kind_of r ≡ kind_of ts → q r ≡ (Err TooDeep, r))
+pub good_deep : {A : Type 0} (N : ℕ) (d : Room) (K : Fault → Type 0) (R : Form A) (q : Reader A) (ts : List Word) → kind_of ts ≢ None → (K TooDeep → (r : List Word) → kind_of r ≡ kind_of ts → q r ≡ (Err TooDeep, r))
     → ((e : Room) → d ⊑ e → Filled e R) → ((a : Word) → Some a.kind ≡ kind_of ts → (k : ℕ) × (y : A) × (w : List Word) × (d.0 ≤ k) × R (k, d.1) y (a ∷ w)) → Good N d K R too_deep q ts
 good_deep N d K R q [] some same fill goes = absurd (some refl)
 good_deep N d K R q (x ∷ ts) some same fill goes =
@@ -93,7 +93,7 @@ or_false true b e = absurd cc
 or_false false b e = (refl, e)
 
 -- what may follow a qualified name in an expression
-pub behind_name : (n d : ℕ) → Qualified → Reader (Tall Expr)
+unfoldable pub behind_name : (n d : ℕ) → Qualified → Reader (Tall Expr)
 behind_name n d q = suffixes_from n d (expr n d) n (expr_of q) 1 >>= λ x. climb n d (expr n d) 1 n 6 x.0 x.1
 
 module _ (n d : ℕ) (e : ℕ → Reader (Tall Expr)) where

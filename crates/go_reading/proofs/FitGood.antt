@@ -47,6 +47,16 @@ a_fit : (p : Pattern) → Fits p (fit_word p)
 unfolding fit_word
 a_fit p = (refl, spelled_self p.bytes)
 
+-- words that fit
+pub fit_words : List Pattern → List Word
+fit_words [] = []
+fit_words (p ∷ ps) = fit_word p ∷ fit_words ps
+
+pub all_words : (ps : List Pattern) → AllFit ps (fit_words ps)
+unfolding fit_words
+all_words [] = tt
+all_words (p ∷ ps) = (a_fit p, all_words ps)
+
 pub spelled_is : (o : Option (List ℕ)) (bytes : List ℕ) → is_spelled o bytes ≡ true → IsSpelled o bytes
 spelled_is None bytes e = tt
 spelled_is (Some wanted) bytes e = (bytes_eq-Decides bytes wanted).0 e
@@ -63,7 +73,7 @@ pub fits_word : (p : Pattern) (w : Word) (ws : List Word) → fits p (w ∷ ws) 
 fits_word p w ws e = let b = both_true (is (Some w.kind) p.kind) (is_spelled p.bytes w.bytes) e in (same_is w.kind p.kind b.0, spelled_is p.bytes w.bytes b.1)
 
 -- the first token decides
-fits_first : (p : Pattern) (r ts : List Word) → first r ≡ first ts → fits p r ≡ fits p ts
+pub fits_first : (p : Pattern) (r ts : List Word) → first r ≡ first ts → fits p r ≡ fits p ts
 fits_first p [] [] e = refl
 fits_first p [] (w ∷ ws) e = absurd cc
 fits_first p (w ∷ ws) [] e = absurd cc
@@ -109,7 +119,7 @@ end_of end (w ∷ ws) = end_of w.span.end ws
 abbrev pub AllOf : List Pattern → ℕ → Form ℕ
 AllOf ps end b e u = AllFit ps u × (e ≡ end_of end u)
 
-all_rise : (ps : List Pattern) (end : ℕ) → Rises (AllOf ps end)
+pub all_rise : (ps : List Pattern) (end : ℕ) → Rises (AllOf ps end)
 all_rise ps end b c le e u i = i
 
 pub expect_all_good : (N : ℕ) (d : Room) (K : Fault → Type 0) (ps : List Pattern) (end : ℕ) (ts : List Word) → Good N d K (AllOf ps end) (expect_all ps end) (expect_all ps end) ts
@@ -255,3 +265,9 @@ counter_good N d K var mode count some ts = seq N d K (FitOf (first_fit var mode
     seq N d K (IndexOf count) _ (expect_index count) _ _ r2 _ _ (index_rises count) (expect_index_good N d K count some r2) (λ i _ r3.
     seq N d K (AllOf (behind_index mode) 0) _ (expect_all (behind_index mode) 0) _ _ r3 _ _ (all_rise (behind_index mode) 0) (expect_all_good N d K (behind_index mode) 0 r3) (λ e _ r4.
     good_pure N d K _ _ r4 (λ b le v iv n iz u iu a' ia. rw (append-nil, iv.1, ia.0, iz.1) (counter_is var mode count b a iz.0 u v i ia.1 iu.0 iz.2 iz.3 iz.4 iv.0))))))
+
+-- it begins with a name
+pub counter_named : (var : List ℕ) (mode : CounterForm) (i : ℕ) (a : Word) (u : List Word) → AllFit (counter var mode i) (a ∷ u) → a.kind ≡ kind.Name
+counter_named var counter_form.SetForm i a u f = f.0.0
+counter_named var counter_form.CountForm i a u f = f.0.0
+counter_named var counter_form.AtomicForm i a u f = f.0.0

@@ -12,7 +12,7 @@ use Rattle.go_reading.specs.Counters.{fits, expect_fit, expect_all, expect_index
 use Rattle.go_reading.proofs.Good.{is_self}
 use Rattle.go_reading.proofs.FitGood.{end_of, is_spelled_self, index_complete, counter_parts, last_is, end_append, behind_end}
 
-fits_is : (p : Pattern) (w : Word) (ws : List Word) → Fits p w → fits p (w ∷ ws) ≡ true
+pub fits_is : (p : Pattern) (w : Word) (ws : List Word) → Fits p w → fits p (w ∷ ws) ≡ true
 fits_is p w ws f = rw (is_self (Some w.kind) p.kind (ap (λ k. Some k) f.0), is_spelled_self p.bytes w.bytes f.1) refl
 
 pub fit_read : (p : Pattern) (w : Word) (rest : List Word) → Fits p w → expect_fit p (w ∷ rest) ≡ (Ok w, rest)
@@ -31,14 +31,14 @@ unfolding expect_index
 index_read count i lt le w rest k b = rw (k, b, index_complete count i lt le) refl
 
 -- tokens that fit some patterns and then others
-record Split (ps qs : List Pattern) (w : List Word) : Type 0 where
-  front : List Word
-  back : List Word
-  both : w ≡ front ++ back
-  first : AllFit ps front
-  second : AllFit qs back
+pub record Split (ps qs : List Pattern) (w : List Word) : Type 0 where
+  pub front : List Word
+  pub back : List Word
+  pub both : w ≡ front ++ back
+  pub first : AllFit ps front
+  pub second : AllFit qs back
 
-fit_split : (ps qs : List Pattern) (w : List Word) → AllFit (ps ++ qs) w → Split ps qs w
+pub fit_split : (ps qs : List Pattern) (w : List Word) → AllFit (ps ++ qs) w → Split ps qs w
 fit_split [] qs w f = record { front = []; back = w; both = refl; first = tt; second = f }
 fit_split (p ∷ ps) qs [] f = absurd f
 fit_split (p ∷ ps) qs (a ∷ w) f = let s = fit_split ps qs w f.1 in record { front = a ∷ s.front; back = s.back; both = ap (λ (v : List Word). a ∷ v) s.both; first = (f.0, s.first); second = s.second }

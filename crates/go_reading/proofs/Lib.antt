@@ -11,7 +11,6 @@ pub mod SpecsGood
 pub mod SpecsRead
 pub mod DeclsGood
 pub mod Clauses
-pub mod NotCovered
 pub mod BlockForm
 pub mod DeclsRead
 pub mod FilesGood
@@ -19,6 +18,7 @@ pub mod FilesRead
 pub mod First
 pub mod Top
 pub mod StmtForms
+pub mod Opens
 pub mod Loose
 pub mod Begun
 pub mod LeadGood
@@ -44,6 +44,12 @@ pub mod PlainRead
 pub mod HeadsRead
 pub mod ForRead
 pub mod CommsRead
+pub mod Own
+pub mod StmtAt
+pub mod Shapes
+pub mod OrGood
+pub mod OrRead
+pub mod TrailerGood
 pub mod Stops
 pub mod StmtsRead
 pub mod CasesRead

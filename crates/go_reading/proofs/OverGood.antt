@@ -13,24 +13,24 @@ use Rattle.go_reading.proofs.Good.{Room, ◌⊑◌, room, Form, At, Good, Filled
 
 -- ---- lists of tokens
 
-front_is : (ts front rest : List Word) → ts ≡ front ++ rest → front_of ts rest ≡ front
+pub front_is : (ts front rest : List Word) → ts ≡ front ++ rest → front_of ts rest ≡ front
 front_is ts front rest e =
     let l = length-append front rest in
     let m : length ts ≡ length (front ++ rest) = ap length e in
     let n : length ts - length rest ≡ length front = omega arith in
     rw (n, e) (take-append_seam front rest)
 
-heads : (x y : Word) (u v : List Word) → x ∷ u ≡ y ∷ v → x ≡ y
+pub heads : (x y : Word) (u v : List Word) → x ∷ u ≡ y ∷ v → x ≡ y
 heads x y u v e = cc
 
-tails : (x y : Word) (u v : List Word) → x ∷ u ≡ y ∷ v → u ≡ v
+pub tails : (x y : Word) (u v : List Word) → x ∷ u ≡ y ∷ v → u ≡ v
 tails x y u v e = cc
 
 cons_same : (x y : Word) (u v : List Word) → x ≡ y → u ≡ v → y ∷ u ≡ x ∷ v
 cons_same x y u v h t = cc
 
 -- of two cuts the later one has more in front
-later_cut : (a b r s : List Word) → a ++ r ≡ b ++ s → length s ≤ length r → (z : List Word) × (b ≡ a ++ z) × (r ≡ z ++ s)
+pub later_cut : (a b r s : List Word) → a ++ r ≡ b ++ s → length s ≤ length r → (z : List Word) × (b ≡ a ++ z) × (r ≡ z ++ s)
 later_cut [] b r s e le = (b, refl, e)
 later_cut (x ∷ a) [] r s e le =
     let l = length-append (x ∷ a) r in
@@ -55,10 +55,10 @@ pub no_first : (r : List Word) → first r ≡ first [] → r ≡ []
 no_first [] e = refl
 no_first (b ∷ s) e = absurd cc
 
-joined : (g f z r' w : List Word) → g ≡ f ++ z → z ++ r' ≡ w → g ++ r' ≡ f ++ w
+pub joined : (g f z r' w : List Word) → g ≡ f ++ z → z ++ r' ≡ w → g ++ r' ≡ f ++ w
 joined g f z r' w e i = rw (e, append_assoc, i) refl
 
-emptied : (ws : List Word) → is_empty ws ≡ true → ws ≡ []
+pub emptied : (ws : List Word) → is_empty ws ≡ true → ws ≡ []
 emptied [] e = refl
 emptied (w ∷ ws) e = absurd cc
 
@@ -73,7 +73,7 @@ not_le m n lt = go (nat_le m n) refl
 
 module _ (N : ℕ) (K : Fault → Type 0) (never : K Exhausted → ⊥) (d d' : Room) (R : Form (Tall Stmt)) (C : Form Stmt) (c : Reader Stmt) (c_good : (ts : List Word) → Good N d (λ _. Unit {0}) C c c ts)
     (counts : (b : Room) → d ⊑ b → (x : Stmt) (w : List Word) → C b x w → R b (x, 0) w) (alone : List Word → Option (Tall Stmt))
-    (alone_is : (ts : List Word) (e : Fault) (a : Word) (r front : List Word) → c ts ≡ (Err e, a ∷ r) → ts ≡ front ++ a ∷ r → (x : Tall Stmt) → alone front ≡ Some x → R d x front)
+    (alone_is : (ts : List Word) (e : Fault) (a : Word) (r front : List Word) → c ts ≡ (Err e, a ∷ r) → ts ≡ front ++ a ∷ r → (x : Tall Stmt) → is_stop (Some a.kind) ≡ true → alone (front ++ a ∷ []) ≡ Some x → R d x front)
     (far : Reader (Tall Stmt)) (far_goes : (s : List Word) → (far s).1 ≡ [] → (b : ℕ) × (x : Tall Stmt) × (m : List Word) × (d.0 ≤ b) × R (b, d.1) x (s ++ m))
     (p q : Reader (Tall Stmt)) (other_good : (ts : List Word) → Good N d K R p q ts)
     (short_is : (ts : List Word) (e : Fault) (a : Word) (r front : List Word) → c ts ≡ (Err e, a ∷ r) → ts ≡ front ++ a ∷ r → (far (front ++ a ∷ [])).1 ≡ [] → length (a ∷ r) < length (p ts).1 → ((p ts).0 ≡ Err TooDeep) ⊎ ((p ts).0 ≡ Err Exhausted)) where
@@ -81,7 +81,7 @@ module _ (N : ℕ) (K : Fault → Type 0) (never : K Exhausted → ⊥) (d d' : 
   over o = counted_or c alone far o
 
   -- where a counter breaks off
-  at_break : (o : Reader (Tall Stmt)) (ts front : List Word) (e : Fault) (a : Word) (r : List Word) → c ts ≡ (Err e, a ∷ r) → ts ≡ front ++ a ∷ r → over o ts ≡ by_alone c alone far o ts front a r (if is_stop (Some a.kind) then alone front else None)
+  at_break : (o : Reader (Tall Stmt)) (ts front : List Word) (e : Fault) (a : Word) (r : List Word) → c ts ≡ (Err e, a ∷ r) → ts ≡ front ++ a ∷ r → over o ts ≡ by_alone c alone far o ts front a r (if is_stop (Some a.kind) then alone (front ++ a ∷ []) else None)
   unfolding over counted_or
   at_break o ts front e a r is cut = rw (is, front_is ts front (a ∷ r) cut) refl
 
@@ -99,14 +99,14 @@ module _ (N : ℕ) (K : Fault → Type 0) (never : K Exhausted → ⊥) (d d' : 
 
   module _ (ts : List Word) (e : Fault) (a : Word) (r : List Word) (is : c ts ≡ (Err e, a ∷ r)) (f : At N d (λ _. Unit {0}) C c ts (Err e) (a ∷ r)) where
     -- on another text the reader does the same up to there
-    over_at : (s : List Word) → over q (f.front ++ a ∷ s) ≡ by_alone c alone far q (f.front ++ a ∷ s) f.front a s (if is_stop (Some a.kind) then alone f.front else None)
+    over_at : (s : List Word) → over q (f.front ++ a ∷ s) ≡ by_alone c alone far q (f.front ++ a ∷ s) f.front a s (if is_stop (Some a.kind) then alone (f.front ++ a ∷ []) else None)
     over_at s = at_break q (f.front ++ a ∷ s) f.front e a s (f.same tt (a ∷ s) refl) refl
 
     some_counter : (b : Room) → d ⊑ b → Filled b R
     some_counter b le = let x = f.filled b le in ((x.0, 0), x.1, counts b le x.0 x.1 x.2)
 
     -- where no statement goes on
-    refused : (o : Option (Tall Stmt)) → (if is_stop (Some a.kind) then alone f.front else None) ≡ o → is_empty (far (f.front ++ a ∷ [])).1 ≡ false → o ≡ None → At N d K R (over q) ts (Err Unexpected) (a ∷ r)
+    refused : (o : Option (Tall Stmt)) → (if is_stop (Some a.kind) then alone (f.front ++ a ∷ []) else None) ≡ o → is_empty (far (f.front ++ a ∷ [])).1 ≡ false → o ≡ None → At N d K R (over q) ts (Err Unexpected) (a ∷ r)
     refused o i empty none =
         let m = f.means in
         record {
@@ -118,23 +118,23 @@ module _ (N : ℕ) (K : Fault → Type 0) (never : K Exhausted → ⊥) (d d' : 
           enough = λ lt x. cc;
         }
 
-    standing : (x : Tall Stmt) → (if is_stop (Some a.kind) then alone f.front else None) ≡ Some x → alone f.front ≡ Some x → At N d K R (over q) ts (Ok x) (a ∷ r)
-    standing x i some = record {
+    standing : (x : Tall Stmt) → (if is_stop (Some a.kind) then alone (f.front ++ a ∷ []) else None) ≡ Some x → is_stop (Some a.kind) ≡ true → alone (f.front ++ a ∷ []) ≡ Some x → At N d K R (over q) ts (Ok x) (a ∷ r)
+    standing x i stop some = record {
       front = f.front;
       cut = f.cut;
       same = λ s r' k. let p = same_first a r' r k in rw p.1 (over_at p.0 ∙ rw i refl);
-      means = alone_is ts e a r f.front is f.cut x some;
+      means = alone_is ts e a r f.front is f.cut x stop some;
       filled = some_counter;
       enough = λ lt x. cc;
     }
 
     -- where another goes on with the token
-    goes_on_at : (s : List Word) → (if is_stop (Some a.kind) then alone f.front else None) ≡ None → is_empty (far (f.front ++ a ∷ [])).1 ≡ true
+    goes_on_at : (s : List Word) → (if is_stop (Some a.kind) then alone (f.front ++ a ∷ []) else None) ≡ None → is_empty (far (f.front ++ a ∷ [])).1 ≡ true
         → over q (f.front ++ a ∷ s) ≡ by_other c alone far q (a ∷ s) (q (f.front ++ a ∷ s)).0 (q (f.front ++ a ∷ s)).1
     goes_on_at s none empty = over_at s ∙ rw none (rw empty refl)
 
     -- the other reader went as far, or farther
-    other_at : (v : Result (Tall Stmt) Fault) (behind : List Word) → At N d K R q ts v behind → (if is_stop (Some a.kind) then alone f.front else None) ≡ None → is_empty (far (f.front ++ a ∷ [])).1 ≡ true → length behind ≤ length (a ∷ r) → At N d K R (over q) ts v behind
+    other_at : (v : Result (Tall Stmt) Fault) (behind : List Word) → At N d K R q ts v behind → (if is_stop (Some a.kind) then alone (f.front ++ a ∷ []) else None) ≡ None → is_empty (far (f.front ++ a ∷ [])).1 ≡ true → length behind ≤ length (a ∷ r) → At N d K R (over q) ts v behind
     other_at v behind g none empty le =
         let z = later_cut f.front g.front (a ∷ r) behind (sym f.cut ∙ g.cut) le in
         record {
@@ -155,7 +155,7 @@ module _ (N : ℕ) (K : Fault → Type 0) (never : K Exhausted → ⊥) (d d' : 
         }
 
     -- it stopped before, since it has too few levels
-    deep_at : (behind : List Word) → At N d K R q ts (Err TooDeep) behind → (if is_stop (Some a.kind) then alone f.front else None) ≡ None → is_empty (far (f.front ++ a ∷ [])).1 ≡ true → length (a ∷ r) < length behind → At N d K R (over q) ts (Err TooDeep) (a ∷ r)
+    deep_at : (behind : List Word) → At N d K R q ts (Err TooDeep) behind → (if is_stop (Some a.kind) then alone (f.front ++ a ∷ []) else None) ≡ None → is_empty (far (f.front ++ a ∷ [])).1 ≡ true → length (a ∷ r) < length behind → At N d K R (over q) ts (Err TooDeep) (a ∷ r)
     deep_at behind g none empty lt =
         let z = later_cut g.front f.front behind (a ∷ r) (sym g.cut ∙ f.cut) (omega arith) in
         let m = f.means in
@@ -181,7 +181,7 @@ module _ (N : ℕ) (K : Fault → Type 0) (never : K Exhausted → ⊥) (d d' : 
     exhausted_at : (behind : List Word) → At N d K R q ts (Err Exhausted) behind → At N d K R (over q) ts (Err Exhausted) behind
     exhausted_at behind g = record { front = g.front; cut = g.cut; same = λ s. absurd (never s); means = g.means; filled = g.filled; enough = g.enough }
 
-    by_lengths : (v : Result (Tall Stmt) Fault) (behind : List Word) → At N d K R q ts v behind → (if is_stop (Some a.kind) then alone f.front else None) ≡ None → is_empty (far (f.front ++ a ∷ [])).1 ≡ true → (b : Bool) → nat_le (length behind) (length (a ∷ r)) ≡ b
+    by_lengths : (v : Result (Tall Stmt) Fault) (behind : List Word) → At N d K R q ts v behind → (if is_stop (Some a.kind) then alone (f.front ++ a ∷ []) else None) ≡ None → is_empty (far (f.front ++ a ∷ [])).1 ≡ true → (b : Bool) → nat_le (length behind) (length (a ∷ r)) ≡ b
         → (length (a ∷ r) < length behind → (v ≡ Err TooDeep) ⊎ (v ≡ Err Exhausted))
         → At N d K R (over q) ts (if b then (v, behind) else short c alone far p (a ∷ r) v behind).0 (if b then (v, behind) else short c alone far p (a ∷ r) v behind).1
     by_lengths v behind g none empty true le why = other_at v behind g none empty (leb-true (length behind) (length (a ∷ r)) le)
@@ -191,14 +191,21 @@ module _ (N : ℕ) (K : Fault → Type 0) (never : K Exhausted → ⊥) (d d' : 
         by_fault v g (inl i) lt = rw i (deep_at behind (subst (λ (w : Result (Tall Stmt) Fault). At N d K R q ts w behind) i g) none empty lt)
         by_fault v g (inr i) lt = rw i (exhausted_at behind (subst (λ (w : Result (Tall Stmt) Fault). At N d K R q ts w behind) i g))
 
-    broken_at : (o : Option (Tall Stmt)) → (if is_stop (Some a.kind) then alone f.front else None) ≡ o → (b : Bool) → is_empty (far (f.front ++ a ∷ [])).1 ≡ b
+    broken_at : (o : Option (Tall Stmt)) → (if is_stop (Some a.kind) then alone (f.front ++ a ∷ []) else None) ≡ o → (b : Bool) → is_empty (far (f.front ++ a ∷ [])).1 ≡ b
         → At N d K R (over q) ts (by_alone c alone far p ts f.front a r o).0 (by_alone c alone far p ts f.front a r o).1
-    broken_at (Some x) i b empty = standing x i (stands x i)
+    broken_at (Some x) i b empty = standing x i (stops x i) (stands x i)
       where
-        stands : (x : Tall Stmt) → (if is_stop (Some a.kind) then alone f.front else None) ≡ Some x → alone f.front ≡ Some x
+        stops : (x : Tall Stmt) → (if is_stop (Some a.kind) then alone (f.front ++ a ∷ []) else None) ≡ Some x → is_stop (Some a.kind) ≡ true
+        stops x i = by_stop (is_stop (Some a.kind)) i
+          where
+            by_stop : (s : Bool) → (if s then alone (f.front ++ a ∷ []) else None) ≡ Some x → s ≡ true
+            by_stop true i = refl
+            by_stop false i = absurd cc
+
+        stands : (x : Tall Stmt) → (if is_stop (Some a.kind) then alone (f.front ++ a ∷ []) else None) ≡ Some x → alone (f.front ++ a ∷ []) ≡ Some x
         stands x i = by_stop (is_stop (Some a.kind)) i
           where
-            by_stop : (s : Bool) → (if s then alone f.front else None) ≡ Some x → alone f.front ≡ Some x
+            by_stop : (s : Bool) → (if s then alone (f.front ++ a ∷ []) else None) ≡ Some x → alone (f.front ++ a ∷ []) ≡ Some x
             by_stop true i = i
             by_stop false i = absurd cc
     broken_at None i false empty = rw empty (refused None i empty refl)
@@ -223,7 +230,7 @@ module _ (N : ℕ) (K : Fault → Type 0) (never : K Exhausted → ⊥) (d d' : 
         filled = λ b le. let y = f.filled b le in ((y.0, 0), y.1, counts b le y.0 y.1 y.2);
         enough = λ lt y. cc;
       }
-  by_outcome ts (Err e) (a ∷ r) is f = rw (front_is ts f.front (a ∷ r) f.cut) (broken_at ts e a r is f (if is_stop (Some a.kind) then alone f.front else None) refl (is_empty (far (f.front ++ a ∷ [])).1) refl)
+  by_outcome ts (Err e) (a ∷ r) is f = rw (front_is ts f.front (a ∷ r) f.cut) (broken_at ts e a r is f (if is_stop (Some a.kind) then alone (f.front ++ a ∷ []) else None) refl (is_empty (far (f.front ++ a ∷ [])).1) refl)
 
   pub counted_or_good : (ts : List Word) → Good N d K R (counted_or c alone far p) (counted_or c alone far q) ts
   unfolding counted_or over

@@ -1,5 +1,5 @@
 -- The tokens of a covered text that a source doesn't have, read from left to right.
-use Rattle.std.specs.Prelude.{◌&&◌, ◌||◌, ℕ, ◌-◌, nat_lt, nat_le, Bool, true, false, if◌then◌else◌, List, [], ◌∷◌, ◌++◌, length, take, Option, Some, None, Result, Ok, Err, codes, decimal}
+use Rattle.std.specs.Prelude.{◌&&◌, ◌||◌, ℕ, ◌-◌, ◌≤◌, ◌^◌, nat_lt, nat_le, Bool, true, false, if◌then◌else◌, List, [], ◌∷◌, ◌++◌, length, take, Option, Some, None, Result, Ok, Err, codes, decimal}
 use Rattle.std.specs.Str.{bytes_eq}
 use Rattle.std.specs.Str.Parse.{digits_value}
 use Rattle.go_ast.specs.declared.token.TokenKind.{TokenKind}
@@ -8,6 +8,8 @@ use Rattle.go_ast.specs.declared.block.Stmt.{Stmt}
 use Rattle.go_ast.specs.declared.block.StmtForm.TheVariants as statement
 use Rattle.go_grammar.specs.declared.form.CounterForm.{CounterForm}
 use Rattle.go_grammar.specs.declared.form.CounterForm.TheVariants as counter_form
+use Rattle.go_grammar.specs.declared.form.Form.{Form}
+use Rattle.go_grammar.specs.declared.form.Form.TheVariants as text_form
 use Rattle.go_grammar.specs.Words.{Word}
 use Rattle.go_grammar.specs.Patterns.{Pattern, any}
 use Rattle.go_grammar.specs.Covering.{name, number}
@@ -17,6 +19,11 @@ use Rattle.go_reading.specs.declared.fault.Fault.{Fault}
 use Rattle.go_reading.specs.declared.fault.Fault.TheVariants.{Unexpected, TooDeep, Exhausted}
 use Rattle.go_reading.specs.Kinds.{is, ends_list}
 use Rattle.go_reading.specs.Input.{Outcome, Reader, Tall, ◌>>=◌, ◌>>◌, pure, refuse, head, next, kind_of}
+
+-- the numbers of units are 32 bits wide
+abbrev pub Small : Form → Type 0
+Small text_form.Source = Unit {0}
+Small (text_form.Covered var mode count) = count ≤ 2 ^ 32
 
 -- ---- tokens that are known one by one
 
@@ -86,9 +93,19 @@ is_empty (w ∷ ws) = false
 abbrev pub front_of : List Word → List Word → List Word
 front_of ts rest = take (length ts - length rest) ts
 
--- Other reads statements that are no counters. Where a counter breaks off, alone gives the statement that the tokens up to there
--- are, and far tells by reading them and the next token, with levels enough, whether another statement goes on with it. If so,
--- and other stopped before, it did since it has too few levels.
+-- the statement that all tokens but the last spell, if a reader gave it
+abbrev pub alone_of : Result (Tall Stmt) Fault → List Word → Option (Tall Stmt)
+alone_of (Ok x) (a ∷ []) = Some x
+alone_of _ _ = None
+
+-- a token that only passes the limit of depth goes on
+abbrev pub far_of : Result (Tall Stmt) Fault → List Word → Outcome (Tall Stmt)
+far_of (Err TooDeep) (a ∷ []) = (Err TooDeep, [])
+far_of v rest = (v, rest)
+
+-- Other reads statements that are no counters. Where a counter breaks off, the tokens up to there and the next one are read with
+-- levels enough: alone gives the statement that those up to there spell, and far is at the end if another statement goes on with
+-- the next. If so, and other stopped before, it did since it has too few levels.
 module _ (counter : Reader Stmt) (alone : List Word → Option (Tall Stmt)) (far other : Reader (Tall Stmt)) where
   abbrev pub short : List Word → Result (Tall Stmt) Fault → List Word → Outcome (Tall Stmt)
   short rest (Err Exhausted) before = (Err Exhausted, before)
@@ -103,7 +120,7 @@ module _ (counter : Reader Stmt) (alone : List Word → Option (Tall Stmt)) (far
 
   abbrev pub broken_off : List Word → List Word → Outcome (Tall Stmt)
   broken_off ts [] = (Err Unexpected, [])
-  broken_off ts (a ∷ rest) = by_alone ts (front_of ts (a ∷ rest)) a rest (if is_stop (Some a.kind) then alone (front_of ts (a ∷ rest)) else None)
+  broken_off ts (a ∷ rest) = by_alone ts (front_of ts (a ∷ rest)) a rest (if is_stop (Some a.kind) then alone (front_of ts (a ∷ rest) ++ a ∷ []) else None)
 
   abbrev pub by_counter : List Word → Result Stmt Fault → List Word → Outcome (Tall Stmt)
   by_counter ts (Ok x) rest = (Ok (x, 0), rest)

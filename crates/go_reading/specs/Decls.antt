@@ -4,6 +4,7 @@ use Rattle.go_ast.specs.declared.expr.TypeExpr.{TypeExpr}
 use Rattle.go_ast.specs.declared.decl.Param.{Param}
 use Rattle.go_ast.specs.declared.decl.Decl.{Decl}
 use Rattle.go_ast.specs.declared.decl.Decl.TheVariants as decl
+use Rattle.go_grammar.specs.declared.form.Form.{Form}
 use Rattle.go_grammar.specs.Terminals as t
 use Rattle.go_grammar.specs.Decls.{params_of}
 use Rattle.go_reading.specs.declared.fault.Fault.TheVariants.{Exhausted}
@@ -36,14 +37,14 @@ module _ (n d : ℕ) where
     expect t.right_parenthesis
     pure xs) (peek >>= λ kind. if begins_type kind then (type_ d >>= λ x. pure (x.0 ∷ [], x.1)) else pure ([], 0))
 
-module _ (n m d : ℕ) where
+module _ (form : Form) (n m d : ℕ) where
   unfoldable pub func : Reader (Tall Decl)
   func = do
     start ← take_span
     name ← expect_name
     ps ← params n d
     rs ← results n d
-    b ← block n m d
+    b ← block form n m d
     pure (decl.Func (record { name = name.0; params = ps.0; results = rs.0; body = b.0.block; span = record { start = start.start; end = b.0.end } }), max (max ps.1 rs.1) b.1)
 
   unfoldable pub declaration : Reader (Tall Decl)

@@ -1,6 +1,6 @@
 -- Statements, read from left to right. The number n bounds the turns of each repetition, m the clauses of a select; d is how
 -- many levels there may be below the statement.
-use Rattle.std.specs.Prelude.{◌||◌, ◌&&◌, ℕ, zero, suc, ◌+◌, ◌-◌, max, Bool, true, false, if◌then◌else◌, nat_le, List, [], ◌∷◌, ◌++◌, length, Option, Some, None}
+use Rattle.std.specs.Prelude.{◌||◌, ◌&&◌, ℕ, zero, suc, ◌+◌, ◌-◌, max, Bool, true, false, if◌then◌else◌, nat_le, nat_lt, List, [], ◌∷◌, ◌++◌, length, Option, Some, None}
 use Rattle.go_ast.specs.declared.token.TokenKind.{TokenKind}
 use Rattle.go_ast.specs.declared.token.TokenKind.TheVariants as kind
 use Rattle.go_ast.specs.declared.span.Span.{Span}
@@ -18,6 +18,8 @@ use Rattle.go_ast.specs.declared.block.CaseClause.{CaseClause}
 use Rattle.go_ast.specs.declared.block.CommClause.{CommClause}
 use Rattle.go_ast.specs.declared.block.Comm.{Comm}
 use Rattle.go_ast.specs.declared.block.Comm.TheVariants as comm
+use Rattle.go_grammar.specs.declared.form.Form.{Form}
+use Rattle.go_grammar.specs.declared.form.Form.TheVariants as text_form
 use Rattle.go_grammar.specs.Terminals as t
 use Rattle.go_grammar.specs.Trees.{stmt_node, stmt_end, expr_node, expr_end, exprs_end, block_node, block_left, hidden_block, other_node, case_node, comm_node}
 use Rattle.go_reading.specs.declared.fault.Fault.TheVariants.{TooMany, Exhausted}
@@ -32,7 +34,9 @@ use Rattle.go_reading.specs.Kinds.{is, begins, begins_stmt, binary_op, ends_list
 use Rattle.go_reading.specs.Exprs.{expr, exprs, climb}
 use Rattle.go_reading.specs.Specs.{consts, vars}
 use Rattle.go_reading.specs.Simple.{target_of, plains_of, next_target, eval_stmt, lead, stmt_by, bare, simple, is_some}
-use Rattle.go_reading.specs.Input.{Reader, Tall, ◌>>=◌, ◌>>◌, pure, fail, refuse, peek, take_span, take_name, expect, if_kind, limited}
+use Rattle.go_reading.specs.Counters.{fits, first_fit, counter_stmt, alone_of, far_of, counted_or}
+use Rattle.go_grammar.specs.Words.{Word}
+use Rattle.go_reading.specs.Input.{Reader, Tall, ◌>>=◌, ◌>>◌, pure, fail, refuse, too_deep, peek, take_span, take_name, expect, if_kind, limited}
 
 -- ---- headers
 
@@ -152,6 +156,11 @@ module _ (n d : ℕ) where
 
 -- ---- lists of statements
 
+-- the levels that each statement of a text of the form needs: a counter needs none
+abbrev pub least : Form → ℕ
+least text_form.Source = 1
+least (text_form.Covered var mode count) = if nat_lt 0 count then 0 else 1
+
 module _ (n d : ℕ) (stmt : Reader (Tall Stmt)) where
   -- behind a statement: the list goes on, or ends
   unfoldable pub next_from : Bool → List Stmt → ℕ → Reader (Tall (List Stmt)) → Reader (Tall (List Stmt))
@@ -164,9 +173,10 @@ module _ (n d : ℕ) (stmt : Reader (Tall Stmt)) where
     x ← stmt
     peek >>= λ kind. if is kind t.semicolon || ends_list clause kind then (peek >>= λ kind. if full && begins_clause kind then fail TooMany else limited d x.1 (next_from clause (found ++ x.0 ∷ []) (max h x.1) (stmts_from clause full turns (found ++ x.0 ∷ []) (max h x.1)))) else refuse
 
+module _ (form : Form) (n d : ℕ) (stmt : Reader (Tall Stmt)) where
   -- in a block or in a clause, which may be the last that may come
   unfoldable pub list : Bool → Bool → Reader (Tall (List Stmt))
-  list clause full = peek >>= λ kind. if ends_list clause kind then pure ([], 0) else (peek >>= λ kind. if begins_stmt kind then limited d 1 (stmts_from clause full n [] 0) else refuse)
+  list clause full = peek >>= λ kind. if ends_list clause kind then pure ([], 0) else (peek >>= λ kind. if begins_stmt kind then limited d (least form) (stmts_from n d stmt clause full n [] 0) else refuse)
 
   unfoldable pub block_in : Reader (Tall Braced)
   block_in = do
@@ -257,13 +267,13 @@ for_form (f.Range names over) body = statement.Range names over body
 
 -- ---- for, switch, select
 
-module _ (n m d : ℕ) (stmt : Reader (Tall Stmt)) where
+module _ (form : Form) (n m d : ℕ) (stmt : Reader (Tall Stmt)) where
   unfoldable pub switch_in : Reader (Tall Stmt)
   switch_in = do
     start ← take_span
     x ← maybe_header n d
     left ← expect t.left_brace
-    cs ← cases_from n d stmt n [] 0
+    cs ← cases_from form n d stmt n [] 0
     right ← expect t.right_brace
     pure (stmt_node start.start right.end (statement.Switch x.0.first x.0.test left.start cs.0), max x.1 cs.1 + 1)
 
@@ -271,7 +281,7 @@ module _ (n m d : ℕ) (stmt : Reader (Tall Stmt)) where
   select_in = do
     start ← take_span
     left ← expect t.left_brace
-    cs ← comms_from n d stmt m n [] 0
+    cs ← comms_from form n d stmt m n [] 0
     right ← expect t.right_brace
     pure (stmt_node start.start right.end (statement.Select left.start cs.0), cs.1 + 1)
 
@@ -354,6 +364,34 @@ plain_stmt n (suc c) breakable = do
     y ← lead n (suc c) false x
     stmt_by y)
 
+-- ---- statements that counters begin as
+
+abbrev pub begins_breakable : Option TokenKind → Bool
+begins_breakable kind = is kind t.for_word || (is kind t.switch_word || is kind t.select_word)
+
+-- what may have a label, where there is no level for it
+unfoldable pub no_breakable : Reader (Tall Stmt)
+no_breakable = peek >>= λ kind. if begins_breakable kind then too_deep else refuse
+
+-- simple statements and labels, with levels and turns enough for the tokens of a counter
+unfoldable pub high : Reader (Tall Stmt)
+high = plain_stmt 16 2 no_breakable
+
+unfoldable pub alone : List Word → Option (Tall Stmt)
+alone ts = alone_of (high ts).0 (high ts).1
+
+unfoldable pub far : Reader (Tall Stmt)
+far = λ ts. far_of (high ts).0 (high ts).1
+
+-- a counter of the form, or a statement that the reader reads
+unfoldable pub or_counter : Form → Reader (Tall Stmt) → Reader (Tall Stmt)
+or_counter text_form.Source other = other
+or_counter (text_form.Covered var mode count) other = λ ts. if nat_lt 0 count && fits (first_fit var mode) ts then counted_or (counter_stmt var mode count) alone far other ts else other ts
+
+-- a statement where there is no level for it
+unfoldable pub no_level : Reader (Tall Stmt)
+no_level = peek >>= λ kind. if begins_stmt kind then too_deep else refuse
+
 module _ (n d : ℕ) (block : Reader (Tall Braced)) where
   unfoldable pub nested_stmt : Reader (Tall Stmt)
   nested_stmt = limited d 1 (do
@@ -379,23 +417,23 @@ module _ (n d : ℕ) (block : Reader (Tall Braced)) where
       (plain_stmt n d labelled)))))))))))))
 
 unfoldable mutual
-  pub stmt : ℕ → ℕ → ℕ → Reader (Tall Stmt)
-  stmt n m zero = fail Exhausted
-  stmt n m (suc d) = stmt_in n d (block n m d) (if_in n d (block n m d) (hidden n m d)) (breakable_in n m d (stmt n m d) (block n m d)) (breakable n m d)
+  pub stmt : Form → ℕ → ℕ → ℕ → Reader (Tall Stmt)
+  stmt form n m zero = or_counter form no_level
+  stmt form n m (suc d) = or_counter form (stmt_in n d (block form n m d) (if_in n d (block form n m d) (hidden form n m d)) (breakable_in form n m d (stmt form n m d) (block form n m d)) (breakable form n m d))
 
-  pub block : ℕ → ℕ → ℕ → Reader (Tall Braced)
-  block n m zero = fail Exhausted
-  block n m (suc d) = block_in n d (stmt n m d)
+  pub block : Form → ℕ → ℕ → ℕ → Reader (Tall Braced)
+  block form n m zero = fail Exhausted
+  block form n m (suc d) = block_in form n d (stmt form n m d)
 
-  pub breakable : ℕ → ℕ → ℕ → Reader (Tall Stmt)
-  breakable n m zero = fail Exhausted
-  breakable n m (suc d) = breakable_in n m d (stmt n m d) (block n m d)
+  pub breakable : Form → ℕ → ℕ → ℕ → Reader (Tall Stmt)
+  breakable form n m zero = fail Exhausted
+  breakable form n m (suc d) = breakable_in form n m d (stmt form n m d) (block form n m d)
 
-  pub if_ : ℕ → ℕ → ℕ → Reader (Tall Stmt)
-  if_ n m zero = fail Exhausted
-  if_ n m (suc d) = if_in n d (block n m d) (hidden n m d)
+  pub if_ : Form → ℕ → ℕ → ℕ → Reader (Tall Stmt)
+  if_ form n m zero = fail Exhausted
+  if_ form n m (suc d) = if_in n d (block form n m d) (hidden form n m d)
 
   -- an `if` in a hidden block of this depth
-  pub hidden : ℕ → ℕ → ℕ → Reader (Tall Stmt)
-  hidden n m zero = fail Exhausted
-  hidden n m (suc d) = if_ n m d
+  pub hidden : Form → ℕ → ℕ → ℕ → Reader (Tall Stmt)
+  hidden form n m zero = fail Exhausted
+  hidden form n m (suc d) = if_ form n m d

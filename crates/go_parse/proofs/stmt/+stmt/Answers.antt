@@ -9,47 +9,48 @@ use Rattle.go_parse.proofs.Levels.{stmt_inner}
 use Rattle.go_parse.proofs.Firsts.{with_brace, with_if, with_breakable, with_other}
 use Rattle.go_parse.proofs.Steps.{one_more}
 use Rattle.go_parse.proofs.stmt.+stmt.Goals as goal
+use Rattle.go_grammar.specs.Blocks.{source}
 
 pub list-loop-turn-preserved : goal.list-loop-turn-preserved
 unfolding stmts_from next_from
 list-loop-turn-preserved t c =
-    let e = one_more (λ (n : ℕ). stmts_from c.args.bounds.turns c.args.depth (stmt c.args.bounds.turns c.args.bounds.most c.args.depth) c.args.clause c.args.full n c.loop-turn.found c.loop-turn.height c.loop-turn.tokens) _ c.loop-turn._turn c.loop-turn-test.true c.loop-turn.invariant.so_far in
+    let e = one_more (λ (n : ℕ). stmts_from c.args.bounds.turns c.args.depth (stmt source c.args.bounds.turns c.args.bounds.most c.args.depth) c.args.clause c.args.full n c.loop-turn.found c.loop-turn.height c.loop-turn.tokens) _ c.loop-turn._turn c.loop-turn-test.true c.loop-turn.invariant.so_far in
     record { so_far = first_of (search rules, grind (arith, common_steps, stmt_inner)); tall = first_of (search rules, grind (arith, common_steps)) }
 
 pub cases-loop-turn-preserved : goal.cases-loop-turn-preserved
 unfolding cases_from case_node
 cases-loop-turn-preserved t c =
-    let e = one_more (λ (n : ℕ). cases_from c.args.bounds.turns c.args.depth (stmt c.args.bounds.turns c.args.bounds.most c.args.depth) n c.loop-turn.found c.loop-turn.height c.loop-turn.tokens) _ c.loop-turn._turn c.loop-turn-test.true c.loop-turn.invariant.so_far in
+    let e = one_more (λ (n : ℕ). cases_from source c.args.bounds.turns c.args.depth (stmt source c.args.bounds.turns c.args.bounds.most c.args.depth) n c.loop-turn.found c.loop-turn.height c.loop-turn.tokens) _ c.loop-turn._turn c.loop-turn-test.true c.loop-turn.invariant.so_far in
     record { so_far = first_of (search rules, grind (arith, common_steps)); tall = first_of (search rules, grind (arith, common_steps)) }
 
 pub comms-loop-turn-preserved : goal.comms-loop-turn-preserved
 unfolding comms_from comm_node
 comms-loop-turn-preserved t c =
-    let e = one_more (λ (n : ℕ). comms_from c.args.bounds.turns c.args.depth (stmt c.args.bounds.turns c.args.bounds.most c.args.depth) c.args.bounds.most n c.loop-turn.found c.loop-turn.height c.loop-turn.tokens) _ c.loop-turn._turn c.loop-turn-test.true c.loop-turn.invariant.so_far in
+    let e = one_more (λ (n : ℕ). comms_from source c.args.bounds.turns c.args.depth (stmt source c.args.bounds.turns c.args.bounds.most c.args.depth) c.args.bounds.most n c.loop-turn.found c.loop-turn.height c.loop-turn.tokens) _ c.loop-turn._turn c.loop-turn-test.true c.loop-turn.invariant.so_far in
     record { so_far = first_of (search rules, grind (arith, common_steps)); tall = first_of (search rules, grind (arith, common_steps)) }
 
 pub list-returns-then-not-goes_on-2-clause-reads : goal.list-returns-then-not-goes_on-2-clause-reads
 unfolding list stmts_from next_from
 list-returns-then-not-goes_on-2-clause-reads t c =
-    let e = one_more (λ (n : ℕ). stmts_from c.args.bounds.turns c.args.depth (stmt c.args.bounds.turns c.args.bounds.most c.args.depth) c.args.clause c.args.full n c.loop-turn.found c.loop-turn.height c.loop-turn.tokens) _ c.loop-turn._turn c.loop-turn-test.true c.loop-turn.invariant.so_far in
+    let e = one_more (λ (n : ℕ). stmts_from c.args.bounds.turns c.args.depth (stmt source c.args.bounds.turns c.args.bounds.most c.args.depth) c.args.clause c.args.full n c.loop-turn.found c.loop-turn.height c.loop-turn.tokens) _ c.loop-turn._turn c.loop-turn-test.true c.loop-turn.invariant.so_far in
     first_of (search rules, grind (arith, common_steps, stmt_inner))
 
 pub list-returns-then-ends_list-2-clause-reads : goal.list-returns-then-ends_list-2-clause-reads
 unfolding list stmts_from next_from
 list-returns-then-ends_list-2-clause-reads t c =
-    let e = one_more (λ (n : ℕ). stmts_from c.args.bounds.turns c.args.depth (stmt c.args.bounds.turns c.args.bounds.most c.args.depth) c.args.clause c.args.full n c.loop-turn.found c.loop-turn.height c.loop-turn.tokens) _ c.loop-turn._turn c.loop-turn-test.true c.loop-turn.invariant.so_far in
+    let e = one_more (λ (n : ℕ). stmts_from c.args.bounds.turns c.args.depth (stmt source c.args.bounds.turns c.args.bounds.most c.args.depth) c.args.clause c.args.full n c.loop-turn.found c.loop-turn.height c.loop-turn.tokens) _ c.loop-turn._turn c.loop-turn-test.true c.loop-turn.invariant.so_far in
     first_of (search rules, grind (arith, common_steps, stmt_inner))
 
 pub comms-returns-then-len-bounds-clause-reads : goal.comms-returns-then-len-bounds-clause-reads
 unfolding comms_from
 comms-returns-then-len-bounds-clause-reads t c =
-    let e = one_more (λ (n : ℕ). comms_from c.args.bounds.turns c.args.depth (stmt c.args.bounds.turns c.args.bounds.most c.args.depth) c.args.bounds.most n c.loop-turn.found c.loop-turn.height c.loop-turn.tokens) _ c.loop-turn._turn c.loop-turn-test.true c.loop-turn.invariant.so_far in
+    let e = one_more (λ (n : ℕ). comms_from source c.args.bounds.turns c.args.depth (stmt source c.args.bounds.turns c.args.bounds.most c.args.depth) c.args.bounds.most n c.loop-turn.found c.loop-turn.height c.loop-turn.tokens) _ c.loop-turn._turn c.loop-turn-test.true c.loop-turn.invariant.so_far in
     first_of (search rules, grind (arith, common_steps))
 
 pub comms-returns-in_err-list-clause-reads : goal.comms-returns-in_err-list-clause-reads
 unfolding comms_from comm_node
 comms-returns-in_err-list-clause-reads t c =
-    let e = one_more (λ (n : ℕ). comms_from c.args.bounds.turns c.args.depth (stmt c.args.bounds.turns c.args.bounds.most c.args.depth) c.args.bounds.most n c.loop-turn.found c.loop-turn.height c.loop-turn.tokens) _ c.loop-turn._turn c.loop-turn-test.true c.loop-turn.invariant.so_far in
+    let e = one_more (λ (n : ℕ). comms_from source c.args.bounds.turns c.args.depth (stmt source c.args.bounds.turns c.args.bounds.most c.args.depth) c.args.bounds.most n c.loop-turn.found c.loop-turn.height c.loop-turn.tokens) _ c.loop-turn._turn c.loop-turn-test.true c.loop-turn.invariant.so_far in
     first_of (search rules, grind (arith, common_steps))
 
 pub stmt-returns-then-depth-eq0-clause-reads : goal.stmt-returns-then-depth-eq0-clause-reads

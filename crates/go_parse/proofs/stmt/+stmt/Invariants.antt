@@ -1,6 +1,7 @@
 use Rattle.std.proofs.Common.{◌≡◌, ◌≤◌, ◌+◌, ◌-◌, ◌*◌, []}
 use Rattle.go_reading.specs.Stmts as spec
 use Rattle.go_parse.proofs.stmt.+stmt.Given as goal
+use Rattle.go_grammar.specs.Blocks.{source}
 
 abbrev pub decreases-block : goal.decreases-block
 decreases-block l = 10 * l.depth
@@ -31,21 +32,21 @@ decreases-stmt l = 10 * l.depth + 9
 
 abbrev pub invariant-list-loop-turn : goal.invariant-list-loop-turn
 invariant-list-loop-turn l = record {
-  so_far : spec.stmts_from l.bounds.turns l.depth (spec.stmt l.bounds.turns l.bounds.most l.depth) l.clause l.full (l.bounds.turns - l._turn) l.found l.height l.tokens
-      ≡ spec.stmts_from l.bounds.turns l.depth (spec.stmt l.bounds.turns l.bounds.most l.depth) l.clause l.full l.bounds.turns [] 0 l.fn.tokens;
+  so_far : spec.stmts_from l.bounds.turns l.depth (spec.stmt source l.bounds.turns l.bounds.most l.depth) l.clause l.full (l.bounds.turns - l._turn) l.found l.height l.tokens
+      ≡ spec.stmts_from l.bounds.turns l.depth (spec.stmt source l.bounds.turns l.bounds.most l.depth) l.clause l.full l.bounds.turns [] 0 l.fn.tokens;
   tall : l.height ≤ l.depth;
 }
 
 abbrev pub invariant-cases-loop-turn : goal.invariant-cases-loop-turn
 invariant-cases-loop-turn l = record {
-  so_far : spec.cases_from l.bounds.turns l.depth (spec.stmt l.bounds.turns l.bounds.most l.depth) (l.bounds.turns - l._turn) l.found l.height l.tokens
-      ≡ spec.cases_from l.bounds.turns l.depth (spec.stmt l.bounds.turns l.bounds.most l.depth) l.bounds.turns [] 0 l.fn.tokens;
+  so_far : spec.cases_from source l.bounds.turns l.depth (spec.stmt source l.bounds.turns l.bounds.most l.depth) (l.bounds.turns - l._turn) l.found l.height l.tokens
+      ≡ spec.cases_from source l.bounds.turns l.depth (spec.stmt source l.bounds.turns l.bounds.most l.depth) l.bounds.turns [] 0 l.fn.tokens;
   tall : l.height ≤ l.depth;
 }
 
 abbrev pub invariant-comms-loop-turn : goal.invariant-comms-loop-turn
 invariant-comms-loop-turn l = record {
-  so_far : spec.comms_from l.bounds.turns l.depth (spec.stmt l.bounds.turns l.bounds.most l.depth) l.bounds.most (l.bounds.turns - l._turn) l.found l.height l.tokens
-      ≡ spec.comms_from l.bounds.turns l.depth (spec.stmt l.bounds.turns l.bounds.most l.depth) l.bounds.most l.bounds.turns [] 0 l.fn.tokens;
+  so_far : spec.comms_from source l.bounds.turns l.depth (spec.stmt source l.bounds.turns l.bounds.most l.depth) l.bounds.most (l.bounds.turns - l._turn) l.found l.height l.tokens
+      ≡ spec.comms_from source l.bounds.turns l.depth (spec.stmt source l.bounds.turns l.bounds.most l.depth) l.bounds.most l.bounds.turns [] 0 l.fn.tokens;
   tall : l.height ≤ l.depth;
 }

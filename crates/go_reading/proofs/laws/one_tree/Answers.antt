@@ -2,4 +2,4 @@ use Rattle.go_reading.proofs.Whole.{one_spelled}
 use Rattle.go_reading.proofs.laws.one_tree.Goals as goal
 
 pub returns : goal.returns
-returns c = one_spelled
+returns c = λ form small. one_spelled form small
