@@ -1,0 +1,12 @@
+pub mod Basics
+pub mod Agreement
+pub mod OneSort
+pub mod Layers
+pub mod Values
+pub mod Operators
+pub mod Calls
+pub mod Meanings
+pub mod Found
+pub mod Rows
+pub mod Statements
+pub mod Declarations
