@@ -1,0 +1,7 @@
+use Rattle.std.proofs.Common.{◌≡◌, ℕ, ◌+◌, List, [], ◌++◌, map, take, drop, length, Ok}
+use Rattle.go_types.specs.Checking.{and_then}
+use Rattle.go_packages.specs.Outlines as spec
+use Rattle.go_packages.proofs.outline.no_types.Given as goal
+
+abbrev pub invariant-loop-one : goal.invariant-loop-one
+invariant-loop-one l = spec.no_types l.declared ≡ l.all ++ spec.no_types (drop l.one-index l.declared)

@@ -1,0 +1,10 @@
+pub mod Mentions
+pub mod Placing
+pub mod Imports
+pub mod Outlines
+pub mod Constants
+pub mod Variables
+pub mod Bodies
+pub mod Packages
+pub mod Modules
+pub mod Behind
