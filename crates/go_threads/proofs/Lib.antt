@@ -1,0 +1,9 @@
+pub mod Standing
+pub mod Recording
+pub mod Giving
+pub mod Resting
+pub mod Ending
+pub mod Gathering
+pub mod FirstSeat
+pub mod Closing
+pub mod Sends
