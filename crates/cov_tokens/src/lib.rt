@@ -1,0 +1,4 @@
+//! Covered texts by their tokens.
+#![tactic(auto)]
+
+pub mod laws;
