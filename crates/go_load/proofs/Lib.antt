@@ -5,6 +5,7 @@ pub mod Discovering
 pub mod Finding
 pub mod Imports
 pub mod Lines
+pub mod Making
 pub mod Marking
 pub mod Meeting
 pub mod Parts

@@ -1,5 +1,5 @@
 -- The packages that are found are those that imports lead to.
-use Rattle.std.proofs.Common.{◌≡◌, ℕ, zero, suc, ◌+◌, ◌<◌, ◌≤◌, ◌⊎◌, inl, inr, Bool, true, false, cond, List, [], ◌∷◌, ◌++◌, length, take, get_or, Some, None, Ok, refl, sym, ap, subst, ◌∙◌, arith}
+use Rattle.std.proofs.Common.{◌≡◌, ℕ, zero, suc, ◌<◌, ◌≤◌, ◌⊎◌, inl, inr, Bool, true, false, cond, List, [], ◌∷◌, ◌++◌, length, take, get_or, Some, None, Ok, refl, sym, ap, subst, ◌∙◌, arith}
 use Rattle.std.specs.Prelude.{◌||◌, slice_get}
 use Rattle.std.specs.List.{Contains, flat_map, list_any}
 use Rattle.std.specs.Str.{bytes_eq}
@@ -15,7 +15,7 @@ use Rattle.go_load.specs.Reachable.{IsReached, first, imported, AreReached}
 use Rattle.go_load.specs.Readings.{Reading}
 use Rattle.go_load.specs.declared.contents.Found.{Found}
 use Rattle.go_load.specs.declared.contents.Home.{Home}
-use Rattle.go_load.proofs.Meeting.{get_front, get_push, met_later, names_path, texts_front}
+use Rattle.go_load.proofs.Meeting.{get_push, met_later, names_path, texts_front}
 use Rattle.go_load.proofs.Single.{ok_one, package_one, some_same}
 
 -- ---- elements of lists

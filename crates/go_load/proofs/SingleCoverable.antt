@@ -1,5 +1,5 @@
 -- A source of a covered module comes to one tree or one fault.
-use Rattle.std.proofs.Common.{◌≡◌, ◌⊎◌, ℕ, List, Option, Some, None, Result, Ok, Err, inl, inr, refl, sym, ap, subst, ◌∙◌}
+use Rattle.std.proofs.Common.{◌≡◌, ℕ, List, Option, Some, None, Ok, Err, inl, inr, sym, ap, subst, ◌∙◌}
 use Rattle.go_ast.specs.declared.file.File.{File}
 use Rattle.go_ast.specs.declared.token.Token.{Token}
 use Rattle.go_ast.specs.declared.kind.LexKind.{LexKind}
@@ -13,9 +13,8 @@ use Rattle.go_parse.specs.declared.fault.SourceFault.{SourceFault}
 use Rattle.go_parse.specs.declared.fault.SourceFault.TheVariants as fault
 use Rattle.go_load.specs.Coverable.{IsCoverable, IsNameFault, ReadsCoverable, RefusesCover, RefusesTokens}
 use Rattle.go_load.specs.CoverNames.{first_cover_name}
-use Rattle.go_load.specs.Outcome.{IsSaid, ReadsOne}
+use Rattle.go_load.specs.Outcome.{ReadsOne}
 use Rattle.go_load.specs.Sources.{read_fault}
-use Rattle.go_load.specs.declared.reader.ReadFault.{ReadFault}
 use Rattle.go_load.proofs.SingleSource.{IsTold, fault_one, lex_one, no_fault, no_lex_fault, told_by}
 
 name_fault_one : (token : Token) (d e : SourceFault) → IsNameFault token d → IsNameFault token e → d ≡ e

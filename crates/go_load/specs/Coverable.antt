@@ -10,7 +10,6 @@ use Rattle.go_grammar.specs.Words.{words_of}
 use Rattle.go_load.specs.CoverNames.{first_cover_name}
 use Rattle.go_load.specs.Readings.{Reading}
 use Rattle.go_load.specs.Sources.{read_fault}
-use Rattle.go_load.specs.declared.reader.ReadFault.TheVariants as faults
 use Rattle.go_parse.specs.Answers.{IsFaultOf, IsLexFault}
 use Rattle.go_parse.specs.declared.fault.SourceFault.{SourceFault}
 use Rattle.go_parse.specs.declared.fault.SourceFault.TheVariants as fault

@@ -1,10 +1,11 @@
 -- The module in a directory, as its files tell it.
-use Rattle.std.specs.Prelude.{◌≡◌, ℕ, ◌<◌, Bool, List, [], ◌∷◌, length, map, take, filter_map, flat_map, Ok, Err, slice_get, IsPermutation}
+use Rattle.std.specs.Prelude.{◌≡◌, ℕ, ◌<◌, ◌≤◌, All, Bool, List, [], ◌∷◌, length, map, take, filter_map, flat_map, Ok, Err, slice_get, IsPermutation}
 use Rattle.std.specs.List.{list_any, slice_index_or, Contains}
 use Rattle.std.specs.Ordering.{nat_cmp}
 use Rattle.std.specs.declared.cmp.Ordering.TheVariants.{Less}
 use Rattle.std.specs.Cmp.Lexicographic.{slice_cmp}
 use Rattle.cov_outside.specs.Tree.{Tree}
+use Rattle.go_ast.specs.declared.file.File.{File}
 use Rattle.go_ast.specs.declared.«module».Package.{Package}
 use Rattle.go_ast.specs.declared.«module».SourceFile.{SourceFile}
 use Rattle.go_load.specs.Graph.{Rows, IsLeastCycle, IsLoadOrder}
@@ -69,6 +70,20 @@ texts_of found = map (λ s. s.text) found.sources
 
 abbrev pub loaded_of : List ℕ → List Found → Loaded
 loaded_of path founds = record { «module» = record { path = path; packages = map module_package founds }; texts = flat_map texts_of founds }
+
+-- the module of some of these packages: of one at least, where there is one
+abbrev pub IsMadeOf : List Found → List ℕ → Loaded → Type 0
+IsMadeOf founds path loaded = (made : List Found) × All (Contains founds) made × (0 < length founds → 0 < length made) × (loaded ≡ loaded_of path made)
+
+-- the reader gives this tree for some text that isn't too long
+abbrev pub IsTreeRead : Reading → File → Type 0
+IsTreeRead gives tree = (text : List ℕ) × (length text ≤ 4194304) × gives text (Ok tree)
+
+-- What is loaded, whatever the files are: there is a package, each file has a tree that the reader gives, and no text is too long.
+pub record AreRead (gives : Reading) (loaded : Loaded) : Type 0 where
+  pub some : 0 < length loaded.«module».packages
+  pub trees : All (λ (p : Package). All (λ (f : SourceFile). IsTreeRead gives f.tree) p.files) loaded.«module».packages
+  pub short : All (λ (text : List ℕ). length text ≤ 4194304) loaded.texts
 
 abbrev pub first_path : List (List ℕ) → List ℕ
 first_path [] = []

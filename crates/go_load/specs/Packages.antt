@@ -1,5 +1,5 @@
 -- The packages of a module, as its files tell them.
-use Rattle.std.specs.Prelude.{◌≡◌, ◌⊎◌, ℕ, ◌<◌, ◌≤◌, ◌&&◌, not, List, [], ◌∷◌, ◌++◌, length, map, take, filter, find, flat_map, Option, Some, None, Result, Ok, Err, slice_get, if◌then◌else◌, codes}
+use Rattle.std.specs.Prelude.{◌≡◌, ◌⊎◌, ℕ, ◌<◌, ◌≤◌, ◌&&◌, not, All, List, [], ◌∷◌, ◌++◌, length, map, take, filter, find, flat_map, Option, Some, None, Result, Ok, Err, slice_get, if◌then◌else◌, codes}
 use Rattle.std.specs.List.{list_all, slice_index_or, AllZip}
 use Rattle.std.specs.FinMap as finmap
 use Rattle.std.specs.Str.{IsUtf8}
@@ -48,6 +48,10 @@ FromText gives path name text (Err refusals.NoMemory) = ⊥
 -- what a source file comes to: it is read, and then its text
 abbrev pub SourceIn : Reading → Tree → List ℕ → List ℕ → Outcomes Source
 SourceIn gives t dir name = Then (Is (text_at t (path_in dir name))) (FromText gives (path_in dir name) name)
+
+-- the reader gives the tree of a source file for its text, which isn't too long
+abbrev pub IsOf : Reading → Source → Type 0
+IsOf gives source = gives source.text (Ok source.tree) × (length source.text ≤ 4194304)
 
 -- ---- a package
 
@@ -105,6 +109,10 @@ FromNames gives t home path (name ∷ names) =
 -- what a package comes to: its directory is listed, then its files are read in order of name
 abbrev pub PackageAt : Reading → Tree → Home → List ℕ → Outcomes Found
 PackageAt gives t home path = FromNames gives t home path (filter is_source_name (names_in (dir_of home.dir home.path path) t))
+
+-- all files of a package are as the reader gives them
+abbrev pub IsPackageRead : Reading → Found → Type 0
+IsPackageRead gives found = All (IsOf gives) found.sources
 
 -- ---- all packages
 

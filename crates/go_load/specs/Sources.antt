@@ -1,5 +1,5 @@
 -- What reading a source of a module comes to.
-use Rattle.std.specs.Prelude.{◌≡◌, ℕ, List, Ok, Err}
+use Rattle.std.specs.Prelude.{◌≡◌, Ok, Err}
 use Rattle.cov_outside.specs.declared.limit.Which.{Which}
 use Rattle.cov_outside.specs.declared.limit.Which.TheVariants as limits
 use Rattle.go_load.specs.Readings.{Reading}

@@ -1,7 +1,7 @@
 //! Loading a module.
-ghost use Rattle.std.specs.Prelude.{◌≡◌, IfOk, IfSome, map};
+ghost use Rattle.std.specs.Prelude.{◌≡◌, IfOk, IfSome, IsPermutation, map};
 ghost use Rattle.go_load.specs.Loading as spec;
-ghost use Rattle.go_load.specs.Loading.{ArePathsApart, AreSorted, Loads};
+ghost use Rattle.go_load.specs.Loading.{ArePathsApart, AreRead, AreSorted, IsMadeOf, Loads};
 ghost use Rattle.go_load.specs.Refusals.{Answers, CountsRead, IsNoRead};
 
 use crate::contents::{Found, Home};
@@ -18,7 +18,8 @@ use std::alloc::Global;
 
 /// The packages in byte order of path.
 fn in_path_order(founds: Vec<Found>) -> Result<Vec<Found>, NoMemory>
-    ensures { IfOk result (λ sorted. ArePathsApart founds.items → AreSorted founds.items sorted.items) }
+    ensures same { IfOk result (λ sorted. IsPermutation founds.items sorted.items) }
+    ensures sorted { IfOk result (λ sorted. ArePathsApart founds.items → AreSorted founds.items sorted.items) }
 {
     let mut sorted = founds;
     sorted.sort_by(|a: &Found, b: &Found| a.path.cmp(&b.path))?;
@@ -56,6 +57,7 @@ fn cycle_of(alloc: Global, founds: &[Found], cycle: &[usize]) -> Result<LoadRefu
 /// The module of packages: in load order, or else the refusal of their least cycle.
 fn from_packages(alloc: Global, home: Home, founds: Vec<Found>) -> Result<Loaded, LoadRefusal>
     ensures told { ArePathsApart founds.items → Answers (λ l. l) result (spec.FromPackages home founds.items) }
+    ensures of { IfOk result (IsMadeOf founds.items home.path) }
     ensures no_read { IsNoRead result }
 {
     let founds = in_path_order(founds)?;
@@ -77,6 +79,7 @@ pub fn load_by<F: Files, S: ReadsSource>(
     root: &str,
 ) -> Result<Loaded, LoadRefusal>
     ensures told { IfSome (F.tree files.old) (λ t. Answers (λ l. l) result (Loads (S.gives reader.now) t root.now)) }
+    ensures read { IfOk result (AreRead (S.gives reader.now)) }
     ensures same { F.tree files.new ≡ F.tree files.old }
     ensures cause { CountsRead (F.read_faults files.old) (F.read_faults files.new) result }
     ensures puts { F.put_faults files.new ≡ F.put_faults files.old }

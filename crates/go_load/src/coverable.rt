@@ -1,13 +1,14 @@
 //! Loading modules whose covered texts will run.
-ghost use Rattle.std.specs.Prelude.{◌≡◌, ◌≤◌, ◌^◌, IfErr, IfSome, MatchResult, length};
+ghost use Rattle.std.specs.Prelude.{◌≡◌, ◌≤◌, ◌^◌, IfErr, IfOk, IfSome, MatchResult, length};
 ghost use Rattle.go_ast.specs.Tokens.{HasTokens};
 ghost use Rattle.go_grammar.specs.Blocks.{source};
 ghost use Rattle.go_grammar.specs.Files.{SpellsWithin};
 ghost use Rattle.go_grammar.specs.Words.{words_of};
 ghost use Rattle.go_load.specs.Coverable as spec;
 ghost use Rattle.go_load.specs.CoverNames.{first_cover_name as first_of};
-ghost use Rattle.go_load.specs.Loading.{Loads};
+ghost use Rattle.go_load.specs.Loading.{AreRead, Loads};
 ghost use Rattle.go_load.specs.Refusals.{Answers, CountsRead};
+ghost use Rattle.go_load.specs.Sources.{ReadsSources};
 ghost use Rattle.go_parse.specs.Answers.{IsWithin, source_fault};
 
 use crate::by_reader::load_by;
@@ -87,6 +88,7 @@ pub fn load_for_cover<F: Files>(
     root: &str,
 ) -> Result<Loaded, LoadRefusal>
     ensures told { IfSome (F.tree files.old) (λ t. Answers (λ l. l) result (Loads spec.ReadsCoverable t root.now)) }
+    ensures read { IfOk result (AreRead ReadsSources) }
     ensures same { F.tree files.new ≡ F.tree files.old }
     ensures cause { CountsRead (F.read_faults files.old) (F.read_faults files.new) result }
     ensures puts { F.put_faults files.new ≡ F.put_faults files.old }

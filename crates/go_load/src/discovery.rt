@@ -1,9 +1,9 @@
 //! Finding all packages of a module.
-ghost use Rattle.std.specs.Prelude.{◌≡◌, ◌≤◌, ◌<◌, All, IfOk, IfSome, OnOk, List, ℕ, length, filter, map, slice_get};
+ghost use Rattle.std.specs.Prelude.{◌≡◌, ◌≤◌, ◌<◌, All, IfOk, IfSome, MatchOption, OnOk, List, ℕ, length, filter, map, slice_get};
 ghost use Rattle.std.specs.Str.{IsUtf8};
 ghost use Rattle.cov_bytes.specs.Intern.{with_text};
 ghost use Rattle.go_load.specs.Packages as spec;
-ghost use Rattle.go_load.specs.Packages.{IsPackagePath, Packages, with_texts};
+ghost use Rattle.go_load.specs.Packages.{IsPackagePath, IsPackageRead, Packages, with_texts};
 ghost use Rattle.go_load.specs.Paths as paths;
 ghost use Rattle.go_load.specs.Refusals.{Answers, CountsRead};
 
@@ -67,6 +67,7 @@ fn read_next<F: Files, S: ReadsSource>(
     requires few { n ≤ 1000 }
     ensures told { IfSome (F.tree files.old) (λ t. Answers (λ found. found) result (spec.NextOf (S.gives reader.now) t home.now met.now n)) }
     ensures few { IfOk result (λ found. IfSome found (λ _. n < 1000)) }
+    ensures read { IfOk result (λ found. MatchOption found (length met.now ≤ n) (IsPackageRead (S.gives reader.now))) }
     ensures same { F.tree files.new ≡ F.tree files.old }
     ensures cause { CountsRead (F.read_faults files.old) (F.read_faults files.new) result }
     ensures puts { F.put_faults files.new ≡ F.put_faults files.old }
@@ -89,6 +90,8 @@ pub fn discover<F: Files, S: ReadsSource>(
 ) -> Result<Vec<Found>, LoadRefusal>
     requires { IsUtf8 home.now.dir }
     ensures told { IfSome (F.tree files.old) (λ t. Answers (λ founds. founds.items) result (Packages (S.gives reader.now) t home.now)) }
+    ensures read { IfOk result (λ founds. All (IsPackageRead (S.gives reader.now)) founds.items) }
+    ensures some { IfOk result (λ founds. 0 < length founds.items) }
     ensures same { F.tree files.new ≡ F.tree files.old }
     ensures cause { CountsRead (F.read_faults files.old) (F.read_faults files.new) result }
     ensures puts { F.put_faults files.new ≡ F.put_faults files.old }

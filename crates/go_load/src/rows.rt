@@ -54,7 +54,8 @@ fn row_of(
 
 /// Which packages import which, by their places in the list.
 pub(crate) fn graph_of(alloc: Global, home: &Home, founds: &[Found]) -> Result<Graph, NoMemory>
-    ensures { IfOk result (λ graph. DoPathsRise founds.now → graph ≡ spec.rows_of home.now founds.now) }
+    ensures rows { IfOk result (λ graph. DoPathsRise founds.now → graph ≡ spec.rows_of home.now founds.now) }
+    ensures many { IfOk result (λ graph. length graph ≡ length founds.now) }
 {
     let mut rows = Vec::new(alloc);
     for found in founds {

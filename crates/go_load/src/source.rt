@@ -2,7 +2,7 @@
 ghost use Rattle.std.specs.Prelude.{◌≡◌, ◌≤◌, All, IfOk, IfSome, length};
 ghost use Rattle.std.specs.Str.{IsUtf8};
 ghost use Rattle.go_load.specs.Packages as spec;
-ghost use Rattle.go_load.specs.Packages.{EachOf, FromText, SourceIn, text_at};
+ghost use Rattle.go_load.specs.Packages.{EachOf, FromText, IsOf, SourceIn, text_at};
 ghost use Rattle.go_load.specs.Refusals.{Answers, CountsRead, Is, IsNoRead};
 
 use crate::contents::Source;
@@ -59,6 +59,7 @@ fn source_of<S: ReadsSource>(
 ) -> Result<Source, LoadRefusal>
     requires { length text.items ≤ 4194304 }
     ensures told { Answers (λ source. source) result (FromText (S.gives reader.now) path.now name.now text.items) }
+    ensures read { IfOk result (IsOf (S.gives reader.now)) }
     ensures no_read { IsNoRead result }
 {
     match reader.read(alloc, &text) {
@@ -88,6 +89,7 @@ fn read_source<F: Files, S: ReadsSource>(
     requires dir { IsUtf8 dir.now }
     requires name { IsUtf8 name.now }
     ensures told { IfSome (F.tree files.old) (λ t. Answers (λ source. source) result (SourceIn (S.gives reader.now) t dir.now name.now)) }
+    ensures read { IfOk result (IsOf (S.gives reader.now)) }
     ensures same { F.tree files.new ≡ F.tree files.old }
     ensures cause { CountsRead (F.read_faults files.old) (F.read_faults files.new) result }
     ensures puts { F.put_faults files.new ≡ F.put_faults files.old }
@@ -108,6 +110,7 @@ pub fn read_sources<F: Files, S: ReadsSource>(
     requires dir { IsUtf8 dir.now }
     requires names { All IsUtf8 names.now }
     ensures told { IfSome (F.tree files.old) (λ t. Answers (λ sources. sources.items) result (EachOf (SourceIn (S.gives reader.now) t dir.now) names.now)) }
+    ensures read { IfOk result (λ sources. All (IsOf (S.gives reader.now)) sources.items) }
     ensures same { F.tree files.new ≡ F.tree files.old }
     ensures cause { CountsRead (F.read_faults files.old) (F.read_faults files.new) result }
     ensures puts { F.put_faults files.new ≡ F.put_faults files.old }

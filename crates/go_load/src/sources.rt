@@ -1,6 +1,6 @@
 //! Loading modules of sources.
-ghost use Rattle.std.specs.Prelude.{◌≡◌, IfSome};
-ghost use Rattle.go_load.specs.Loading.{Loads};
+ghost use Rattle.std.specs.Prelude.{◌≡◌, IfOk, IfSome};
+ghost use Rattle.go_load.specs.Loading.{AreRead, Loads};
 ghost use Rattle.go_load.specs.Refusals.{Answers, CountsRead};
 ghost use Rattle.go_load.specs.Sources as spec;
 
@@ -45,6 +45,7 @@ impl ReadsSource for SourceReader {
 /// files in order of name and what they import; then the least cycle of imports.
 pub fn load<F: Files>(alloc: Global, files: &mut F, root: &str) -> Result<Loaded, LoadRefusal>
     ensures told { IfSome (F.tree files.old) (λ t. Answers (λ l. l) result (Loads spec.ReadsSources t root.now)) }
+    ensures read { IfOk result (AreRead spec.ReadsSources) }
     ensures same { F.tree files.new ≡ F.tree files.old }
     ensures cause { CountsRead (F.read_faults files.old) (F.read_faults files.new) result }
     ensures puts { F.put_faults files.new ≡ F.put_faults files.old }

@@ -5,7 +5,7 @@ ghost use Rattle.std.specs.Option.{option_copied};
 ghost use Rattle.std.specs.Str.{IsUtf8};
 ghost use Rattle.go_load.specs.Names.{is_source_name as is_source};
 ghost use Rattle.go_load.specs.Packages as spec;
-ghost use Rattle.go_load.specs.Packages.{PackageAt, FromNames, IsPackagePath};
+ghost use Rattle.go_load.specs.Packages.{PackageAt, FromNames, IsPackagePath, IsPackageRead};
 ghost use Rattle.go_load.specs.Paths as paths;
 ghost use Rattle.go_load.specs.Refusals.{Answers, CountsRead, Is, IsNoRead};
 
@@ -138,6 +138,7 @@ fn package_of(
 ) -> Result<Found, LoadRefusal>
     requires { dir.now ≡ paths.dir_of home.now.dir home.now.path path.now }
     ensures told { Answers (λ found. found) result (Is (spec.package_of home.now path.now sources.items)) }
+    ensures sources { IfOk result (λ found. found.sources ≡ sources.items) }
     ensures no_read { IsNoRead result }
 {
     if let Some(flaw) = flaw_of(alloc, home, dir.bytes(), path, &sources)? {
@@ -161,6 +162,7 @@ pub fn read_package<F: Files, S: ReadsSource>(
 ) -> Result<Found, LoadRefusal>
     requires { IsPackagePath home.now path.now }
     ensures told { IfSome (F.tree files.old) (λ t. Answers (λ found. found) result (PackageAt (S.gives reader.now) t home.now path.now)) }
+    ensures read { IfOk result (IsPackageRead (S.gives reader.now)) }
     ensures same { F.tree files.new ≡ F.tree files.old }
     ensures cause { CountsRead (F.read_faults files.old) (F.read_faults files.new) result }
     ensures puts { F.put_faults files.new ≡ F.put_faults files.old }
