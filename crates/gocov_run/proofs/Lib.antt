@@ -1,0 +1,4 @@
+pub mod Ended
+pub mod Sources
+pub mod Steps
+pub mod Texts
